@@ -1,0 +1,9 @@
+pub mod Amounts
+pub mod Calendar
+pub mod Cohorts
+pub mod Faults
+pub mod Figures
+pub mod Making
+pub mod Periods
+pub mod PeriodCohorts
+pub mod PeriodSound
