@@ -1,0 +1,6 @@
+pub mod Bounded
+pub mod Entries
+pub mod Flat
+pub mod Paged
+pub mod Pages
+pub mod Registers
