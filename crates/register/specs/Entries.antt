@@ -2,7 +2,7 @@
 -- Assumes nothing.
 use mathlib.Core.Bool.{Bool, true, false, cond, not, _&&_}
 use mathlib.Core.List.{List, [], _∷_, _++_}
-use Prim.Native.Nat.{ℕ, _+_, _-_}
+use Prim.Native.Nat.{ℕ, zero, suc, _+_, _-_}
 use lib.Dec.{eqb, leb}
 use lib.ListN.{drop}
 use Rattle.std.specs.shelf.Maps.{nth}
@@ -12,6 +12,8 @@ use Rattle.values.specs.declared.claim_days.ClaimDays.{ClaimDays}
 use Rattle.register.specs.declared.entry.Content.{Content}
 use Rattle.register.specs.declared.entry.Content.the-variants.{Opening, Payment, ReserveChange, Correction, Void, Redating}
 use Rattle.register.specs.declared.entry.Entry.{Entry}
+use Rattle.register.specs.declared.kind.MovementKind.{MovementKind}
+use Rattle.register.specs.declared.kind.MovementKind.the-variants.{Paid, Reserved}
 
 abbrev opens : Content → Bool
 opens (Opening o) = true
@@ -66,53 +68,46 @@ abbrev pub openingsIn : List Entry → ℕ
 openingsIn [] = 0
 openingsIn (e ∷ es) = cond (isOpening e) 1 0 + openingsIn es
 
-abbrev isNumber : Option ℕ → ℕ → Bool
+abbrev pub isNumber : Option ℕ → ℕ → Bool
 isNumber None n = false
 isNumber (Some m) n = eqb m n
 
--- some entry of the list corrects or voids the entry numbered n
-abbrev pub replaces : List Entry → ℕ → Bool
-replaces [] n = false
-replaces (e ∷ es) n = cond (isNumber (namedBy e) n) true (replaces es n)
+-- some entry of the claim in the list corrects or voids the entry numbered n
+abbrev pub replaces : List Entry → (claim n : ℕ) → Bool
+replaces [] claim n = false
+replaces (e ∷ es) claim n = cond (eqb (e .claim) claim && isNumber (namedBy e) n) true (replaces es claim n)
 
-abbrev movementAt : Option Entry → Bool
-movementAt None = false
-movementAt (Some e) = isMovement e
+abbrev pub standsBefore : List Entry → ℕ → Option Entry → Bool
+standsBefore later n None = false
+standsBefore later n (Some e) = isMovement e && not (replaces later (e .claim) n)
 
--- the entry numbered n is a movement that stands: no later entry corrects or voids it
+-- the entry numbered n is a movement that stands: no later entry corrects or voids it. One that does belongs to its claim.
 abbrev pub standsIn : List Entry → ℕ → Bool
-standsIn es n = movementAt (entryIn es n) && not (replaces (drop n es) n)
+standsIn es n = standsBefore (drop n es) n (entryIn es n)
 
--- what a movement counts as
-pub data Kind : Type 0 where
-  paid : Kind
-  reserved : Kind
+-- what a movement counts as, by its content: a correction as the movement that it names
+abbrev pub kindOf : Content → (ℕ → Option MovementKind) → Option MovementKind
+kindOf (Opening o) named = None
+kindOf (Payment p) named = Some Paid
+kindOf (ReserveChange r) named = Some Reserved
+kindOf (Correction k) named = named (k .names)
+kindOf (Void v) named = None
+kindOf (Redating d) named = None
 
-abbrev joined : Option (Option Kind) → Option Kind
-joined None = None
-joined (Some k) = k
+abbrev pub kindFrom : Option Entry → (ℕ → Option MovementKind) → Option MovementKind
+kindFrom None named = None
+kindFrom (Some e) named = kindOf (e .content) named
 
-abbrev kindAt : List (Option Kind) → ℕ → Option Kind
-kindAt kinds n = cond (eqb n 0) None (joined (nth kinds (n - 1)))
+abbrev pub kindWithin : List Entry → (steps n : ℕ) → Option MovementKind
+kindWithin es zero n = None
+kindWithin es (suc steps) n = kindFrom (entryIn es n) (kindWithin es steps)
 
--- the kind of an entry after a list whose kinds are given: a correction counts as the movement that it names
-abbrev kindAfter : List (Option Kind) → Content → Option Kind
-kindAfter kinds (Opening o) = None
-kindAfter kinds (Payment p) = Some paid
-kindAfter kinds (ReserveChange r) = Some reserved
-kindAfter kinds (Correction k) = kindAt kinds (k .names)
-kindAfter kinds (Void v) = None
-kindAfter kinds (Redating d) = None
+-- whether the entry numbered n counts as a payment or as a reserve change; none where it is no movement. Corrections name
+-- earlier entries, so n steps lead to the movement that the chain of them began with.
+abbrev pub kindIn : List Entry → ℕ → Option MovementKind
+kindIn es n = kindWithin es n n
 
-abbrev kindsFrom : List (Option Kind) → List Entry → List (Option Kind)
-kindsFrom kinds [] = kinds
-kindsFrom kinds (e ∷ es) = kindsFrom (kinds ++ (kindAfter kinds (e .content) ∷ [])) es
-
--- whether the entry numbered n counts as a payment or as a reserve change; none where it is no movement
-abbrev pub kindIn : List Entry → ℕ → Option Kind
-kindIn es n = kindAt (kindsFrom [] es) n
-
-abbrev daysAfter : Option ClaimDays → Content → Option ClaimDays
+abbrev pub daysAfter : Option ClaimDays → Content → Option ClaimDays
 daysAfter before (Opening o) = Some (o .«claim_days»)
 daysAfter before (Payment p) = before
 daysAfter before (ReserveChange r) = before
@@ -120,7 +115,7 @@ daysAfter before (Correction k) = before
 daysAfter before (Void v) = before
 daysAfter before (Redating d) = Some (d .«claim_days»)
 
-abbrev daysFrom : Option ClaimDays → List Entry → ℕ → Option ClaimDays
+abbrev pub daysFrom : Option ClaimDays → List Entry → ℕ → Option ClaimDays
 daysFrom before [] claim = before
 daysFrom before (e ∷ es) claim = daysFrom (cond (eqb (e .claim) claim) (daysAfter before (e .content)) before) es claim
 
