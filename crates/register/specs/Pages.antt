@@ -7,7 +7,7 @@ use mathlib.Core.Path.{_≡_, refl}
 use mathlib.Core.Bool.{true, cond}
 use mathlib.Core.List.{List, [], _∷_, _++_, map}
 use Prim.Native.Nat.{ℕ, zero, suc, _+_, _-_, _*_, _/_, _%_, _≤_, _<_, min}
-use lib.Dec.{eqb, ltb, lit<}
+use lib.Dec.{eqb, ltb}
 use lib.ListN.{length, getD, set}
 use Rattle.values.specs.declared.day.Day.{Day}
 use Rattle.register.specs.declared.entry.Content.the-variants.{Void}
@@ -22,7 +22,7 @@ abbrev pub blankDay : Day
 blankDay = record { number = 19000101; lawful = refl }
 
 abbrev pub blankEntry : Entry
-blankEntry = record { booked = blankDay; claim = 0; content = Void (record { names = 0; fits = lit< tt }); fits = lit< tt }
+blankEntry = record { booked = blankDay; claim = 0; content = Void (record { names = 0 }) }
 
 abbrev pub slotAt : List NumberedEntry → ℕ → NumberedEntry
 slotAt slots s = getD slots s (record { number = 0; entry = blankEntry })

@@ -1,5 +1,4 @@
 // An entry of the register.
-ghost use Prim.Native.Nat.{_^_, _<_};
 use values::amount::Amount;
 use values::amount::AmountDebug;
 use values::amount::AmountPartialEq;
@@ -38,14 +37,12 @@ pub struct Correction {
     pub names: u32,
     pub effective: Day,
     pub amount: Amount,
-    ghost fits: { names < 2 ^ 32 },
 }
 
 // V: an earlier movement is taken back.
 #[derive(Clone, Copy, PartialEq, Debug)]
 pub struct Void {
     pub names: u32,
-    ghost fits: { names < 2 ^ 32 },
 }
 
 // D: a claim gets three new claim days.
@@ -71,5 +68,4 @@ pub struct Entry {
     pub booked: Day,
     pub claim: u32,
     pub content: Content,
-    ghost fits: { claim < 2 ^ 32 },
 }

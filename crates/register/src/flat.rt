@@ -8,6 +8,7 @@ ghost use Rattle.register.specs.Entries.{openingsIn};
 ghost use Rattle.register.specs.Registers.{claimsKnown};
 use crate::bounded::BoundedList;
 use crate::entry::Entry;
+pub use methods::FlatLogRegister;
 
 mod methods;
 

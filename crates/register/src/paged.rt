@@ -10,6 +10,7 @@ use crate::bounded::BoundedList;
 use crate::cards::ClaimCard;
 use crate::cards::PageCard;
 use crate::numbered::NumberedEntry;
+pub use methods::PagedRegisterRegister;
 
 mod adding;
 pub mod capacity;

@@ -30,7 +30,7 @@ anchorDay Report claim = claim .report
 abbrev pub baseMonth : (year month : ℕ) → ℕ
 baseMonth year month = 12 * year + month - 1
 
--- a cohort whose settings are in range, and whose last column of the last row ends within the calendar
+-- a cohort whose settings are in range, the base month and all rows and columns laid end to end staying within the calendar
 abbrev pub periodCohortOf : Anchor → (months year month rows columns : ℕ) → Result PeriodCohort CohortFault
 periodCohortOf anchor months year month rows columns =
     provided (isPeriod months) PeriodLength (λ period-ok.

@@ -17,7 +17,7 @@ pub enum CohortFault {
     BaseMonth,
     Rows,
     Columns,
-    // the last column of the last row would end after the last day of the calendar
+    // base + months × (rows + columns) passes the last month of the calendar
     Span,
 }
 

@@ -5,6 +5,8 @@ ghost use Prim.Native.Nat.{_+_, _*_};
 ghost use lib.Dec.{leb};
 ghost use Rattle.values.specs.Calendar.{between};
 ghost use Rattle.values.specs.Periods.{isPeriod};
+pub use methods::PeriodCohortCohort;
+pub use methods::PeriodCohortLabels;
 
 mod methods;
 
