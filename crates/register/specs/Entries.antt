@@ -15,7 +15,7 @@ use Rattle.register.specs.declared.entry.Entry.{Entry}
 use Rattle.register.specs.declared.kind.MovementKind.{MovementKind}
 use Rattle.register.specs.declared.kind.MovementKind.the-variants.{Paid, Reserved}
 
-abbrev opens : Content → Bool
+abbrev pub opens : Content → Bool
 opens (Opening o) = true
 opens (Payment p) = false
 opens (ReserveChange r) = false
@@ -27,7 +27,7 @@ opens (Redating d) = false
 abbrev pub isOpening : Entry → Bool
 isOpening e = opens (e .content)
 
-abbrev moves : Content → Bool
+abbrev pub moves : Content → Bool
 moves (Opening o) = false
 moves (Payment p) = true
 moves (ReserveChange r) = true

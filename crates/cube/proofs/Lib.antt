@@ -1,0 +1,7 @@
+pub mod Claims
+pub mod MovementKinds
+pub mod Accepted
+pub mod KnownClaims
+pub mod Sums
+pub mod OneMore
+pub mod Law

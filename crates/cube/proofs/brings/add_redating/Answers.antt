@@ -1,0 +1,6 @@
+use borrow.Author.Needs.{needs}
+use Rattle.cube.proofs.Claims.{added-append}
+use Rattle.cube.proofs.brings.add_redating.Needs as need
+
+pub returns : need.returns
+returns g c = search (needs, added-append)
