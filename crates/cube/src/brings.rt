@@ -87,7 +87,7 @@ fn add_movement_at<R: Register, C: Cohort>(
 {
     let kind = kind_of(register, number);
     let terms = match register.entry(number) {
-        Some(entry) => terms_of(entry),
+        Some(entry) => terms_of(entry.content),
         None => None,
     };
     add_terms(cohort, sheet, placing, kind, terms);
@@ -225,30 +225,22 @@ fn add_under_days<R: Register, C: Cohort>(
 {
     match content {
         Content::Opening(opening) => add_opening(cohort, sheet, placing.valued, opening),
-        Content::Payment(payment) => {
-            let terms = Terms {
-                effective: payment.effective,
-                amount: payment.amount,
-            };
+        Content::Payment(_) => {
             add_terms(
                 cohort,
                 sheet,
                 placing,
                 Some(MovementKind::Paid),
-                Some(terms),
+                terms_of(content),
             );
         }
-        Content::ReserveChange(change) => {
-            let terms = Terms {
-                effective: change.effective,
-                amount: change.amount,
-            };
+        Content::ReserveChange(_) => {
             add_terms(
                 cohort,
                 sheet,
                 placing,
                 Some(MovementKind::Reserved),
-                Some(terms),
+                terms_of(content),
             );
         }
         Content::Correction(correction) => add_correction(

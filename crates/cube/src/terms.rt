@@ -3,7 +3,6 @@ ghost use mathlib.Core.Path.{_≡_};
 ghost use lib.IntN.{pos};
 ghost use Rattle.cube.specs.Brings.{directed, inTime, termsOf};
 use register::entry::Content;
-use register::entry::Entry;
 use values::amount::Amount;
 use values::day::Day;
 
@@ -53,11 +52,11 @@ impl Direction {
     }
 }
 
-// The terms of an entry that is a movement.
-pub fn terms_of(entry: Entry) -> Option<Terms>
-    ensures { λ r. ⌜ r ≡ termsOf (entry .content) ⌝ }
+// The terms of a movement, by what its entry says.
+pub fn terms_of(content: Content) -> Option<Terms>
+    ensures { λ r. ⌜ r ≡ termsOf content ⌝ }
 {
-    match entry.content {
+    match content {
         Content::Payment(payment) => Some(Terms {
             effective: payment.effective,
             amount: payment.amount,

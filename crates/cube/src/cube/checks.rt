@@ -83,7 +83,7 @@ fn booked_after<R: Register>(register: &R, day: Day) -> bool
 fn is_earlier<R: Register>(register: &R, report: Day, found: NumberedEntry) -> bool
     ensures { λ r. ⌜ r ≡ earlierMovement (R·Register .meaning (now (register .entry)) .entries) report (found .number) (found .entry) ⌝ }
 {
-    let earlier = match terms_of(found.entry) {
+    let earlier = match terms_of(found.entry.content) {
         Some(terms) => is_after(report, terms.effective),
         None => false,
     };
