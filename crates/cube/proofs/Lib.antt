@@ -5,3 +5,4 @@ pub mod KnownClaims
 pub mod Sums
 pub mod OneMore
 pub mod Law
+pub mod Reached

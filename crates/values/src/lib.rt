@@ -4,6 +4,5 @@ pub mod claim_days;
 pub mod cohort;
 pub mod day;
 pub mod fault;
-pub mod figures;
 pub mod period;
 pub mod place;

@@ -1,0 +1,4 @@
+pub mod Bookings
+pub mod Payments
+pub mod Shapes
+pub mod Triangles
