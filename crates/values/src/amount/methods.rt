@@ -6,7 +6,7 @@ use super::Amount;
 use crate::fault::ValueFault;
 
 // The largest amount, either way: a thousand million in the currency of the book.
-pub const LARGEST_CENTS: i64 = 100_000_000_000;
+const LARGEST_CENTS: i64 = 100_000_000_000;
 
 fn is_amount(cents: i64) -> bool
     ensures { λ r. ⌜ r ≡ isAmount cents ⌝ }

@@ -6,9 +6,9 @@ ghost use Rattle.values.specs.Making.{dayOf};
 use super::Day;
 use crate::fault::ValueFault;
 
-pub const FIRST_YEAR: u64 = 1900;
+const FIRST_YEAR: u64 = 1900;
 
-pub const LAST_YEAR: u64 = 2199;
+const LAST_YEAR: u64 = 2199;
 
 fn is_leap_year(year: u64) -> bool
     ensures { λ r. ⌜ r ≡ leapYear year ⌝ }
