@@ -45,7 +45,7 @@ cond-same : {X : Type 0} (b : Bool) (x : X) → cond b x x ≡ x
 cond-same true x = refl
 cond-same false x = refl
 
-entry-within : (es : List Entry) (n : ℕ) (x : Entry) → entryIn es n ≡ Some x → (1 ≤ n) × (n ≤ length es)
+pub entry-within : (es : List Entry) (n : ℕ) (x : Entry) → entryIn es n ≡ Some x → (1 ≤ n) × (n ≤ length es)
 entry-within es n x is =
     elim (cases-eq n 0) [
       | inl none ↦ absurd (let at : None ≡ Some x = sym (cond-true _ _ _ (eq-eqb n 0 none)) ∙ is in let z : _≡_ {A = ℕ} 0 1 = cc in omega arith)
