@@ -59,10 +59,11 @@ nextSlot pages s = cond (ltb (s % 16) 15) (s + 1) (16 * pageAt pages (s / 16) .n
 abbrev pub slotAfter : List PageCard → List ClaimCard → List ℕ → (claim m : ℕ) → ℕ
 slotAfter pages cards places claim m = cond (eqb m 0) (16 * cardOf cards claim .first) (nextSlot pages (placeOf places m))
 
--- how many entries surely fit: every claim may leave up to 15 slots of its last page unused
+-- the pages for which there are cards and slots
 abbrev pub pagesFor : (cards slots : ℕ) → ℕ
 pagesFor cards slots = min (min cards (slots / 16)) 65536
 
+-- how many entries surely fit: every claim may leave up to 15 slots of its last page unused
 abbrev pub pagedCapacity : (cards slots claims places : ℕ) → ℕ
 pagedCapacity cards slots claims places = min (min (16 * pagesFor cards slots - 15 * claims) places) 65536
 
