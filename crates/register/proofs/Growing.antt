@@ -1,6 +1,6 @@
 -- Adding an entry to the paged register keeps its layout, whether its page has a free slot or a page is taken into use.
 -- Assumes nothing.
-use Rattle.std.proofs.Common.{◌≡◌, ℕ, zero, suc, ◌+◌, ◌-◌, ◌*◌, ◌/◌, ◌%◌, ◌<◌, ◌≤◌, min, Bool, true, false, cond, eqb, ltb, ◌≢◌, ◌⊎◌, List, [], ◌∷◌, ◌++◌, length, get_or, set, sym, refl, ap, ◌∙◌, inl, inr, arith}
+use Rattle.std.proofs.Common.{◌≡◌, ℕ, suc, ◌+◌, ◌-◌, ◌*◌, ◌/◌, ◌%◌, ◌<◌, ◌≤◌, Bool, true, false, cond, eqb, ltb, List, [], ◌∷◌, ◌++◌, length, get_or, set, sym, refl, ap, ◌∙◌, inl, inr, arith}
 use Rattle.std.proofs.lemmas.List.{get_or_append_left, get_or-set_same, get_or-set_other, length_push, length-set}
 use Rattle.std.proofs.lemmas.Bool.{cond-true, cond-false, eq-eqb, ne_eqb, eqb-true, eqb-false, lt-ltb, le-ltb, cases_eq, cases_lt}
 use Rattle.register.specs.declared.cards.ClaimCard.{ClaimCard}
@@ -8,8 +8,8 @@ use Rattle.register.specs.declared.cards.PageCard.{PageCard}
 use Rattle.register.specs.declared.entry.Entry.{Entry}
 use Rattle.register.specs.declared.numbered.NumberedEntry.{NumberedEntry}
 use Rattle.register.specs.Pages.{Laid, page_at, card_of, place_of, entries_of, claim_of, last_of, next_slot, spare_slots, spare_after, pages_for, paged_capacity, free_slot, page_added, pages_after, card_after}
-use Rattle.register.proofs.Last.{last_le, last_is}
-use Rattle.register.proofs.Laying.{Grows, spare_set, not_followed, same_place, laid_more, entries_more}
+use Rattle.register.proofs.Last.{last_le}
+use Rattle.register.proofs.Laying.{Grows, spare_set, not_followed, laid_more, entries_more}
 
 -- no claim leaves more than 15 slots of a page
 spare_small : (places : List ℕ) (n : ℕ) → spare_after places n ≤ 15

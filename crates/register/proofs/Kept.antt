@@ -1,5 +1,5 @@
 -- What adding an entry leaves of a paged register, in the terms in which the code holds its parts. Assumes nothing.
-use Rattle.std.proofs.Common.{◌≡◌, ℕ, ◌+◌, ◌-◌, ◌*◌, ◌^◌, ◌<◌, ◌≤◌, true, List, [], ◌∷◌, ◌++◌, length, get_or, set, sym, refl, ap, ◌∙◌, subst, arith}
+use Rattle.std.proofs.Common.{◌≡◌, ℕ, ◌+◌, ◌-◌, ◌*◌, ◌^◌, ◌<◌, ◌≤◌, true, List, [], ◌∷◌, ◌++◌, length, set, sym, ap, ◌∙◌, subst, arith}
 use Rattle.std.proofs.lemmas.List.{get_or_push, length_push, length-set}
 use Rattle.register.specs.declared.cards.ClaimCard.{ClaimCard}
 use Rattle.register.specs.declared.cards.PageCard.{PageCard}
@@ -8,7 +8,7 @@ use Rattle.register.specs.declared.numbered.NumberedEntry.{NumberedEntry}
 use Rattle.register.specs.declared.paged.PagedRegister.{PagedRegister}
 use Rattle.register.specs.Bounded.{items, room}
 use Rattle.register.specs.Paged.{laid_of}
-use Rattle.register.specs.Pages.{Laid, card_of, place_of, entries_of, paged_capacity, pages_for, free_slot, pages_after, card_after}
+use Rattle.register.specs.Pages.{Laid, card_of, place_of, entries_of, paged_capacity, free_slot, pages_after, card_after}
 use Rattle.register.specs.Registers.{is_claim}
 use Rattle.register.proofs.Laying.{is_claim_lem}
 use Rattle.register.proofs.Growing.{added, few_slots, page_free}

@@ -1,12 +1,12 @@
 -- The layout of the paged register: what follows from it, and that one more entry keeps it. Assumes nothing.
-use Rattle.std.proofs.Common.{◌≡◌, ℕ, zero, suc, ◌+◌, ◌-◌, ◌*◌, ◌/◌, ◌%◌, ◌<◌, ◌≤◌, Bool, true, cond, eqb, ◌≢◌, ◌⊎◌, List, [], ◌∷◌, ◌++◌, map, length, get_or, set, replicate, sym, refl, ap, ◌∙◌, inl, inr, arith}
+use Rattle.std.proofs.Common.{◌≡◌, ℕ, zero, suc, ◌+◌, ◌-◌, ◌*◌, ◌%◌, ◌<◌, ◌≤◌, true, cond, eqb, ◌⊎◌, List, [], ◌∷◌, ◌++◌, map, length, get_or, set, replicate, sym, refl, ap, ◌∙◌, inl, inr, arith}
 use Rattle.std.proofs.lemmas.List.{get_or-map, length-map, get_or_append_left, get_or_push, get_or-set_same, get_or-set_other, length_push, length-set, map_push, get_or-replicate, length-replicate}
 use Rattle.std.proofs.lemmas.Bool.{and_parts, and_from, leb-true, le-leb, cond-true, cond-false, eq-eqb, ne_eqb, cases_eq}
 use Rattle.register.specs.declared.cards.ClaimCard.{ClaimCard}
 use Rattle.register.specs.declared.cards.PageCard.{PageCard}
 use Rattle.register.specs.declared.entry.Entry.{Entry}
 use Rattle.register.specs.declared.numbered.NumberedEntry.{NumberedEntry}
-use Rattle.register.specs.Pages.{Laid, slot_at, page_at, card_of, place_of, entries_of, claim_of, last_of, next_slot, slot_after, spare_slots, spare_after, blank_entry}
+use Rattle.register.specs.Pages.{Laid, slot_at, card_of, place_of, entries_of, claim_of, last_of, next_slot, slot_after, spare_slots, spare_after, blank_entry}
 use Rattle.register.specs.Registers.{is_claim, claims_known}
 use Rattle.register.proofs.Booked.{claims_push}
 use Rattle.register.proofs.Last.{last_le, last_is, last_ge, last_same, last_more}

@@ -5,7 +5,6 @@ use Rattle.std.proofs.lemmas.Option.{slice_get-get_or, slice_get_past}
 use Rattle.std.proofs.lemmas.Bool.{cond-true, cond-false, eq-eqb, ne_eqb, eqb-true, cases_eq, cases_lt, cases_Bool, false≢true}
 use Rattle.register.specs.declared.cards.ClaimCard.{ClaimCard}
 use Rattle.register.specs.declared.cards.PageCard.{PageCard}
-use Rattle.register.specs.declared.entry.Entry.{Entry}
 use Rattle.register.specs.declared.numbered.NumberedEntry.{NumberedEntry}
 use Rattle.register.specs.Entries.{entry_in, is_entry_of, of_claim}
 use Rattle.register.specs.Pages.{Laid, slot_at, card_of, place_of, entries_of, claim_of, last_of, next_slot, slot_after, blank_entry}

@@ -1,6 +1,6 @@
 -- Entries, and what a list of them says of its claims and movements. Entries are numbered from 1 in the order of the list.
 -- Assumes nothing.
-use Rattle.std.specs.Prelude.{ℕ, zero, suc, ◌+◌, ◌-◌, Bool, true, false, cond, not, ◌&&◌, List, [], ◌∷◌, ◌++◌, drop, Some, None, Option, ◌==◌}
+use Rattle.std.specs.Prelude.{ℕ, zero, suc, ◌+◌, ◌-◌, Bool, true, false, cond, not, ◌&&◌, List, [], ◌∷◌, drop, Some, None, Option, ◌==◌}
 use Rattle.std.specs.List.{slice_get}
 use Rattle.values.specs.declared.claim_days.ClaimDays.{ClaimDays}
 use Rattle.register.specs.declared.entry.Content.{Content}

@@ -1,5 +1,5 @@
 -- What a flat log means. Assumes nothing.
-use Rattle.std.specs.Prelude.{ℕ, min, [], length}
+use Rattle.std.specs.Prelude.{ℕ, min, []}
 use Rattle.std.proofs.Common.{arith, length-take}
 use Rattle.register.specs.declared.flat.FlatLog.{FlatLog}
 use Rattle.register.specs.Bounded.{items, room}

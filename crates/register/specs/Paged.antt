@@ -1,5 +1,5 @@
 -- What a paged register means. Assumes nothing.
-use Rattle.std.specs.Prelude.{ℕ, ◌≤◌, min, [], length}
+use Rattle.std.specs.Prelude.{ℕ, min, [], length}
 use Rattle.std.proofs.Common.{arith}
 use Rattle.std.proofs.lemmas.List.{length-map}
 use Rattle.register.specs.declared.paged.PagedRegister.{PagedRegister}

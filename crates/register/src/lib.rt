@@ -1,4 +1,6 @@
 // The register of claim entries: what it means, and two implementations of it.
+#![tactic(auto)]
+
 mod adding;
 pub mod bounded;
 pub mod cards;

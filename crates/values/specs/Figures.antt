@@ -1,5 +1,5 @@
 -- Worked figures: what the rules give for chosen numbers, a row each. Assumes nothing.
-use Rattle.std.specs.Prelude.{ℕ, Bool, true, false, ◌&&◌, List, [], ◌∷◌, ℤ, pos, Ok, Err, Result, ◌==◌}
+use Rattle.std.specs.Prelude.{ℕ, Bool, true, false, ◌&&◌, List, [], ◌∷◌, pos, Ok, Err, Result, ◌==◌}
 use Rattle.values.specs.declared.claim_days.ClaimDays.{ClaimDays}
 use Rattle.values.specs.declared.day.Day.{Day}
 use Rattle.values.specs.declared.fault.CohortFault.{CohortFault}

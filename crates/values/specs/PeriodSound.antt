@@ -1,12 +1,12 @@
 -- A period cohort is sound: it has 1 to 40 rows and columns, and places only within them. Assumes nothing.
-use Rattle.std.specs.Prelude.{◌≡◌, ℕ, ◌<◌, ◌≤◌, true, ◌&&◌, ℤ, pos, negsuc, ◌-ℤ◌, IfSome, Some, None, Option, nat_le, nat_lt}
+use Rattle.std.specs.Prelude.{◌≡◌, ℕ, ◌<◌, ◌≤◌, true, ℤ, pos, negsuc, ◌-ℤ◌, IfSome, Some, None, Option, nat_le, nat_lt}
 use Rattle.std.proofs.Common.{ltb-true, leb-true}
 use Rattle.std.proofs.lemmas.Bool.{and_parts, cond_both}
 use Rattle.values.specs.declared.day.Day.{Day}
 use Rattle.values.specs.declared.period.PeriodCohort.{PeriodCohort}
 use Rattle.values.specs.Calendar.{between, month_number}
 use Rattle.values.specs.Cohorts.{Sound, Inside}
-use Rattle.values.specs.Periods.{floor_div, index_below, first_month, period_index}
+use Rattle.values.specs.Periods.{floor_div, index_below, first_month}
 use Rattle.values.specs.PeriodCohorts.{anchor_day, cell_in_row, place_at, period_meaning}
 
 index_below_lem : (bound : ℕ) (z : ℤ) → IfSome (index_below bound z) (λ n. n < bound)

@@ -4,8 +4,8 @@ use Rattle.values.specs.Making.{amount_of}
 use Rattle.values.proofs.Lawful.{amount_made, fails}
 use Rattle.values.proofs.amount.Amount.new.Goals as goal
 
-pub returns-then-is-amount : goal.returns-then-is-amount
-returns-then-is-amount c = amount_made _ ∙ ap amount_of (to_z-of_z w64 c.args.cents c.ranges.cents)
+pub returns-then-is_amount : goal.returns-then-is_amount
+returns-then-is_amount c = amount_made _ ∙ ap amount_of (to_z-of_z w64 c.args.cents c.ranges.cents)
 
-pub returns-else-is-amount : goal.returns-else-is-amount
-returns-else-is-amount c = fails _ _ _ (search rules)
+pub returns-else-is_amount : goal.returns-else-is_amount
+returns-else-is_amount c = fails _ _ _ (search rules)

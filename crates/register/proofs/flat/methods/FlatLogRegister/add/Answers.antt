@@ -1,4 +1,4 @@
-use Rattle.std.proofs.Common.{◌≡◌, true, [], ◌∷◌, ◌++◌, length, sym, ap, ◌∙◌, arith, rules}
+use Rattle.std.proofs.Common.{◌≡◌, true, [], ◌∷◌, ◌++◌, length, ap, ◌∙◌, rules}
 use Rattle.std.proofs.lemmas.List.{length_push}
 use Rattle.register.specs.Bounded.{items}
 use Rattle.register.specs.Entries.{openings_in}
@@ -17,4 +17,9 @@ invariant_of-self c =
     let more = ap openings_in pushed ∙ openings_push before c.args.entry in
     let is : is_claim c.args.self.now.bound c.args.entry.claim ≡ true = search rules in
     let known = ap (claims_known c.args.self.now.bound) pushed ∙ claims_push _ before c.args.entry c.args.self.now.known is in
-    (c.args.self.now.few, (search (rules, longer), (search (rules, more), (known, tt))))
+    record {
+      few = c.args.self.now.few;
+      within = search (rules, longer);
+      counted = search (rules, more);
+      known = known;
+    }

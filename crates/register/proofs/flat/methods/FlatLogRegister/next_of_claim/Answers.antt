@@ -1,4 +1,4 @@
-use Rattle.std.proofs.Common.{sym, ◌∙◌, rules}
+use Rattle.std.proofs.Common.{sym, ◌∙◌}
 use Rattle.register.specs.Bounded.{items}
 use Rattle.register.proofs.Booked.{next_here, next_skip, next_past}
 use Rattle.register.proofs.flat.methods.FlatLogRegister.next_of_claim.Goals as goal

@@ -7,7 +7,7 @@ use Rattle.register.specs.declared.paged.PagedRegister.{PagedRegister}
 use Rattle.register.specs.Bounded.{items, room}
 use Rattle.register.specs.Entries.{openings_in}
 use Rattle.register.specs.Paged.{paged_meaning}
-use Rattle.register.specs.Pages.{card_of, entries_of, free_slot, paged_capacity, place_of, slot_at}
+use Rattle.register.specs.Pages.{card_of, free_slot, paged_capacity, place_of, slot_at}
 use Rattle.register.specs.Registers.{Meaning, is_claim, add_answer, after_add}
 use Rattle.register.proofs.Booked.{openings_le, openings_push}
 use Rattle.register.proofs.Laying.{is_claim_lem}
@@ -91,37 +91,19 @@ invariant_of-self c =
     let l = k.0 in
     let claims = length-set r.claims.now (c.args.entry.claim - 1) c.moved_on.result in
     let capacity = same_capacity c.free_slot-slot.ensures.room (length-set r.slots.now c.free_slot-slot.result (record { number = c.len-len.result + 1; entry = c.args.entry })) claims c.push.ensures.room in
-    let more = ap openings_in k.1 ∙ openings_push (paged_meaning r).entries c.args.entry in (
-      l.numbered,
-      (
-        l.within,
-        (
-          l.linked,
-          (
-            l.lasts,
-            (
-              l.spares,
-              (
-                l.counted,
-                (
-                  l.fit,
-                  (
-                    l.known,
-                    (
-                      omega (arith, claims, r.few),
-                      (
-                        omega (arith, ap length pushed, length_push (items r.places) c.free_slot-slot.result, capacity, room),
-                        (omega (arith, more, r.openings, c.openings_of.ensures), tt),
-                      ),
-                    ),
-                  ),
-                ),
-              ),
-            ),
-          ),
-        ),
-      ),
-    )
+    let more = ap openings_in k.1 ∙ openings_push (paged_meaning r).entries c.args.entry in record {
+      numbered = l.numbered;
+      within = l.within;
+      linked = l.linked;
+      lasts = l.lasts;
+      spares = l.spares;
+      counted = l.counted;
+      fit = l.fit;
+      known = l.known;
+      few = omega (arith, claims, r.few);
+      spacious = omega (arith, ap length pushed, length_push (items r.places) c.free_slot-slot.result, capacity, room);
+      openings = omega (arith, more, r.openings, c.openings_of.ensures);
+    }
 
 same_meaning : {es es' : List Entry} {a b a' b' : ℕ} → es ≡ es' → a ≡ a' → b ≡ b' → ◌≡◌ {A = Meaning} (record { entries = es; capacity = a; bound = b }) (record { entries = es'; capacity = a'; bound = b' })
 same_meaning p q s = simp (p, q, s)

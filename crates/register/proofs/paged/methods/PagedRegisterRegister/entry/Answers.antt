@@ -1,7 +1,7 @@
-use Rattle.std.proofs.Common.{◌≡◌, ◌-◌, ◌≤◌, length, Some, sym, ap, ◌∙◌, arith, rules}
+use Rattle.std.proofs.Common.{◌-◌, Some, sym, ap, ◌∙◌, arith}
 use Rattle.std.proofs.lemmas.List.{get_or_read}
 use Rattle.register.specs.Bounded.{items}
-use Rattle.register.specs.Pages.{place_of, slot_at}
+use Rattle.register.specs.Pages.{slot_at}
 use Rattle.register.proofs.Walking.{entry_here, entry_past}
 use Rattle.register.proofs.paged.methods.PagedRegisterRegister.entry.Goals as goal
 

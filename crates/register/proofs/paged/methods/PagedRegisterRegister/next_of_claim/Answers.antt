@@ -77,8 +77,8 @@ next_slot-slot-requires c = (small c.args.self.now c.args.claim c.args.after c.l
 turn : (r : PagedRegister) (claim after slot next : ℕ) (card : ClaimCard) (found : NumberedEntry) → is_claim (length r.claims.now) claim ≡ true → card ≡ card_of r.claims.now claim → after < card.last → At r claim after slot × (found ≡ slot_at r.slots.now slot) → found.number ≤ after → next ≡ next_slot (items r.pages) slot → At r claim after next × (found.number < (slot_at r.slots.now next).number)
 turn r claim after slot next card found is card_is more inv early next_is = next_reached r claim after is card card_is more slot next found inv.0 inv.1 early next_is
 
-pub slot-found-requires-in_loop-found : goal.slot-found-requires-in_loop-found
-slot-found-requires-in_loop-found c =
+pub slot-found-requires-in-loop-found : goal.slot-found-requires-in-loop-found
+slot-found-requires-in-loop-found c =
     let r = c.args.self.now in
     let is : is_claim (length r.claims.now) c.args.claim ≡ true = search rules in
     (small r c.args.claim c.args.after c.next_slot-slot.result
@@ -89,13 +89,13 @@ loop-found-smaller c =
     let r = c.args.self.now in
     let is : is_claim (length r.claims.now) c.args.claim ≡ true = search rules in
     let on = turn r c.args.claim c.args.after c.loop-found.slot c.next_slot-slot.result c.card-card.result c.loop-found.found is c.card-card.ensures c.if-card-after.false c.loop-found.invariant c.loop-found-test.true c.next_slot-slot.ensures in
-    omega (arith, on.1, on.0.to, ap (λ x. x.number) c.slot-found-in_loop-found.ensures)
+    omega (arith, on.1, on.0.to, ap (λ x. x.number) c.slot-found-in-loop-found.ensures)
 
 pub loop-found-preserved : goal.loop-found-preserved
 loop-found-preserved c =
     let r = c.args.self.now in
     let is : is_claim (length r.claims.now) c.args.claim ≡ true = search rules in
-    ((turn r c.args.claim c.args.after c.loop-found.slot c.next_slot-slot.result c.card-card.result c.loop-found.found is c.card-card.ensures c.if-card-after.false c.loop-found.invariant c.loop-found-test.true c.next_slot-slot.ensures).0, c.slot-found-in_loop-found.ensures)
+    ((turn r c.args.claim c.args.after c.loop-found.slot c.next_slot-slot.result c.card-card.result c.loop-found.found is c.card-card.ensures c.if-card-after.false c.loop-found.invariant c.loop-found-test.true c.next_slot-slot.ensures).0, c.slot-found-in-loop-found.ensures)
 
 pub returns : goal.returns
 returns c =

@@ -1,4 +1,4 @@
-use Rattle.std.proofs.Common.{◌≡◌, ◌+◌, ◌-◌, length}
+use Rattle.std.proofs.Common.{◌≡◌, ◌-◌, length}
 use Rattle.register.specs.Bounded.{items}
 use Rattle.register.specs.Pages.{slot_at}
 use Rattle.register.proofs.Walking.{Reached}
