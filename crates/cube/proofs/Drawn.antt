@@ -1,5 +1,5 @@
 -- Drawing a triangle entry by entry from the tables of its list. Assumes nothing.
-use Rattle.std.proofs.Common.{◌≡◌, ℕ, ◌+◌, ◌<◌, ◌≤◌, Bool, true, false, cond, not, ◌&&◌, List, [], ◌∷◌, ◌++◌, length, get_or, take, drop, Some, None, vec_items, vec_len, Option, sym, refl, ap, ◌∙◌, arith}
+use Rattle.std.proofs.Common.{◌≡◌, ℕ, ◌+◌, ◌<◌, ◌≤◌, true, false, not, ◌&&◌, List, [], ◌++◌, length, get_or, take, drop, Some, None, vec_items, vec_len, Option, sym, refl, ap, ◌∙◌, arith}
 use Rattle.std.proofs.lemmas.List.FromFn.{get_or-map-range_with_len}
 use Rattle.std.proofs.lemmas.List.{drop_all}
 use Rattle.std.proofs.lemmas.Bool.{cond-true, cond-false}
@@ -12,7 +12,7 @@ use Rattle.register.specs.Registers.{claims_known}
 use Rattle.register.specs.declared.entry.Entry.{Entry}
 use Rattle.cube.specs.declared.tables.Tables.{Tables}
 use Rattle.cube.specs.declared.terms.Direction.TheVariants.{Added}
-use Rattle.cube.specs.Brings.{count_under, movement_at, standing_part, terms_at, terms_of, terms_shares, under_days}
+use Rattle.cube.specs.Brings.{count_under, standing_part, terms_at, terms_of, terms_shares, under_days}
 use Rattle.cube.specs.Queries.{part_at}
 use Rattle.cube.specs.Tables.{Tabled, is_replaced_in, replaced_by}
 use Rattle.cube.specs.Triangles.{triangle_from}

@@ -1,9 +1,9 @@
 -- A claim that a register's entries speak of is one that it takes. Assumes nothing.
-use Rattle.std.proofs.Common.{◌≡◌, ℕ, zero, suc, ◌+◌, ◌-◌, ◌<◌, Bool, true, false, cond, eqb, leb, List, [], ◌∷◌, Some, None, Option, sym, ap, ◌∙◌, subst, inl, inr, arith}
+use Rattle.std.proofs.Common.{◌≡◌, ℕ, zero, suc, ◌+◌, ◌-◌, ◌<◌, true, eqb, leb, List, [], ◌∷◌, Some, None, sym, ap, ◌∙◌, inl, inr, arith}
 use Rattle.std.proofs.lemmas.Bool.{and_parts, cases_Bool, cond-true, cond-false, eqb-true, leb-true}
 use Rattle.std.specs.List.{slice_get}
 use Rattle.values.specs.declared.claim_days.ClaimDays.{ClaimDays}
-use Rattle.register.specs.Entries.{claim_days_in, days_after, days_from, entry_in}
+use Rattle.register.specs.Entries.{claim_days_in, days_from, entry_in}
 use Rattle.register.specs.Registers.{claims_known, is_claim}
 use Rattle.register.specs.declared.entry.Entry.{Entry}
 

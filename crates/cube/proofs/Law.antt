@@ -1,6 +1,6 @@
 -- The triangle of a list with one more entry is the triangle before plus what the entry brings, in every cell, for every value
 -- day and for none. Assumes nothing.
-use Rattle.std.proofs.Common.{◌≡◌, ℕ, zero, suc, ◌+◌, ◌-◌, ◌<◌, ◌≤◌, Bool, true, false, cond, not, ◌&&◌, eqb, List, [], ◌∷◌, ◌++◌, length, get_or, drop, ℤ, pos, ◌+ℤ◌, neg_ℤ, Some, None, Option, sym, refl, ap, ◌∙◌, inl, inr, arith}
+use Rattle.std.proofs.Common.{◌≡◌, ℕ, ◌+◌, ◌-◌, ◌<◌, ◌≤◌, Bool, true, false, cond, not, ◌&&◌, eqb, List, [], ◌∷◌, ◌++◌, length, get_or, drop, ℤ, pos, ◌+ℤ◌, neg_ℤ, Some, None, Option, sym, refl, ap, ◌∙◌, inl, inr, arith}
 use lib.IntN.{+ℤ_idl, +ℤ_idr}
 use Rattle.std.proofs.lemmas.Option.{slice_get-get_or, slice_get_past}
 use Rattle.std.proofs.lemmas.Int.{ints}
@@ -8,7 +8,7 @@ use Rattle.std.proofs.lemmas.Bool.{and_parts, cases_Bool, cases_eq, cases_lt, fa
 use Rattle.values.specs.Cohorts.{Meaning}
 use Rattle.values.specs.declared.claim_days.ClaimDays.{ClaimDays}
 use Rattle.values.specs.declared.day.Day.{Day}
-use Rattle.register.specs.Entries.{claim_days_in, days_after, entry_in, is_movement, is_number, is_opening, kind_in, kind_of, moves, named_by, opens, stands_before, stands_in}
+use Rattle.register.specs.Entries.{claim_days_in, entry_in, is_movement, is_number, is_opening, kind_in, kind_of, moves, named_by, opens, stands_before, stands_in}
 use Rattle.register.specs.declared.entry.Content.{Content}
 use Rattle.register.specs.declared.entry.Content.TheVariants as content
 use Rattle.register.specs.declared.entry.Correction as the_correction

@@ -2,7 +2,6 @@
 use Rattle.std.proofs.Common.{◌≡◌, ℕ, suc, ◌+◌, ◌-◌, ◌<◌, List, Some, Option, sym, ap, ◌∙◌, arith}
 use Rattle.register.specs.declared.entry.Content.{Content}
 use Rattle.register.specs.declared.entry.Entry.{Entry}
-use Rattle.register.specs.declared.kind.MovementKind.{MovementKind}
 use Rattle.register.specs.Entries.{entry_in, kind_from, kind_of, kind_in, kind_within}
 
 module _ (es : List Entry) (number step at : ℕ) (less : step < number) where

@@ -1,24 +1,15 @@
 -- What holds of every list of entries that calls have booked, and that one more entry which follows it keeps that. Assumes
 -- nothing.
-use Rattle.std.proofs.Common.{◌≡◌, ℕ, zero, suc, ◌+◌, ◌-◌, ◌<◌, ◌≤◌, Bool, true, false, cond, not, ◌&&◌, eqb, leb, ◌⊎◌, List, [], ◌∷◌, ◌++◌, length, drop, Some, None, Ok, Err, Option, Result, sym, refl, ap, ◌∙◌, subst, inl, inr, arith}
+use Rattle.std.proofs.Common.{◌≡◌, ℕ, suc, ◌+◌, ◌-◌, ◌≤◌, Bool, true, false, cond, not, ◌&&◌, eqb, ◌⊎◌, List, [], ◌∷◌, ◌++◌, length, drop, Some, None, Option, sym, refl, ap, ◌∙◌, inl, inr, arith}
 use Rattle.std.proofs.lemmas.List.{length_push}
-use Rattle.std.proofs.lemmas.Bool.{and_parts, cases_Bool, cases_eq, cases_lt, cond-true, cond-false, eq-eqb, eqb-true, false≢true, true≢false, leb-false, ne_eqb, not-true, not-false}
+use Rattle.std.proofs.lemmas.Bool.{cases_Bool, cases_eq, cond-true, cond-false, eq-eqb, eqb-true, false≢true, true≢false, ne_eqb}
 use Rattle.std.specs.List.{slice_get}
-use Rattle.values.specs.Making.{and_then}
-use Rattle.values.specs.declared.amount.Amount.{Amount}
 use Rattle.values.specs.declared.claim_days.ClaimDays.{ClaimDays}
-use Rattle.values.specs.declared.day.Day.{Day}
-use Rattle.register.specs.Entries.{claim_days_in, days_after, days_from, entry_in, is_movement, is_number, is_opening, named_by, openings_in, opens, stands_before, stands_in}
+use Rattle.register.specs.Entries.{claim_days_in, days_after, days_from, entry_in, is_number, is_opening, named_by, openings_in, opens, stands_before, stands_in}
 use Rattle.register.specs.declared.entry.Content.{Content}
 use Rattle.register.specs.declared.entry.Content.TheVariants as content
 use Rattle.register.specs.declared.entry.Correction as the_correction
 use Rattle.register.specs.declared.entry.Entry.{Entry}
-use Rattle.register.specs.declared.kind.MovementKind.{MovementKind}
-use Rattle.register.specs.declared.kind.MovementKind.TheVariants as kind
-use Rattle.cube.specs.declared.fault.CallFault.{CallFault}
-use Rattle.cube.specs.declared.fault.CallFault.TheVariants.{MovementBeforeReport}
-use Rattle.cube.specs.declared.ticket.Ticket.{Ticket}
-use Rattle.cube.specs.Model.{State, booking_checked, days_checked, effective_checked, is_open_draft, move_entry, moved_before_from, movement_content, on_draft, open_entry, or_fault, post_entry, redate_entry, refused_if, standing_movement, void_entry}
 use Rattle.cube.proofs.Law.{Follows, entry_within}
 use Rattle.cube.proofs.OneMore.{NamesBack, days_new, entry_new, entry_old, stands_old}
 

@@ -1,12 +1,11 @@
 -- The promise about every row of calls. Assumes nothing.
-use Rattle.std.proofs.Common.{◌≡◌, ℕ, ◌+◌, ◌<◌, ◌≤◌, Bool, true, false, cond, ◌⊎◌, List, [], ◌∷◌, ◌++◌, length, get_or, replicate, ℤ, pos, ◌+ℤ◌, neg_ℤ, ◌≤ℤ◌, Some, None, Ok, Err, filter, Option, Result, sym, refl, ap, ◌∙◌, subst, inl, inr, arith, w64}
+use Rattle.std.proofs.Common.{◌≡◌, ℕ, ◌+◌, ◌<◌, ◌≤◌, true, cond, ◌⊎◌, List, [], ◌∷◌, ◌++◌, length, get_or, ℤ, pos, ◌+ℤ◌, neg_ℤ, ◌≤ℤ◌, Some, None, Ok, Err, filter, Option, Result, sym, refl, ap, ◌∙◌, subst, inl, inr, arith}
 use lib.IntN.{+ℤ_idr}
 use Rattle.std.proofs.lemmas.List.FromFn.{length-map-range_with_len}
 use Rattle.std.proofs.lemmas.List.{get_or_past, length_push, length-take}
 use Rattle.std.proofs.lemmas.Int.{ints}
 use Rattle.std.proofs.lemmas.Bool.{cases_Bool, cases_lt, cond-true, cond-false, leb-true}
 use Rattle.std.specs.Result.{result_ok}
-use Rattle.std.specs.Int.{int_wrap}
 use Rattle.values.specs.Cohorts as cohorts
 use Rattle.values.specs.declared.day.Day.{Day}
 use Rattle.register.specs.Entries.{entry_in, stands_in}
@@ -15,8 +14,8 @@ use Rattle.cube.specs.declared.fault.CallFault.{CallFault}
 use Rattle.cube.specs.declared.ticket.Ticket.{Ticket}
 use Rattle.cube.specs.Brings.{brings}
 use Rattle.cube.specs.Calls.{Call, Ledger, after, brought_in, entry_of, next}
-use Rattle.cube.specs.Model.{State, after_draft, after_drop, after_post, draft_ticket, drop_answer, move_entry, open_entry, post_entry, redate_entry, refused_if, sheet_after, standing_movement, state_after, void_entry, with_draft}
-use Rattle.cube.specs.Promises.{Booked, Lawful, New, Promised, history, most_cents, noted, stood_on}
+use Rattle.cube.specs.Model.{State, after_draft, after_drop, after_post, draft_ticket, drop_answer, move_entry, open_entry, post_entry, redate_entry, sheet_after, state_after, void_entry, with_draft}
+use Rattle.cube.specs.Promises.{Booked, Lawful, New, history, most_cents, noted, stood_on}
 use Rattle.cube.specs.Queries.{booked_by, is_booked_by, known_on, queried}
 use Rattle.cube.specs.Sheets.{added_all, sheet_length}
 use Rattle.cube.specs.Triangles.{sum_at, triangle, triangle_sheet}
@@ -27,7 +26,7 @@ use Rattle.cube.proofs.Joins.{Joins, draft_stands, move_joins, open_joins, post_
 use Rattle.cube.proofs.Known.{Ordered, known_all, known_more, known_old, ordered_more}
 use Rattle.cube.proofs.Law.{law, entry_within}
 use Rattle.cube.proofs.OneMore.{entry_new}
-use Rattle.cube.proofs.Reached.{Reached, entry_split, reached_more, reached_new}
+use Rattle.cube.proofs.Reached.{Reached, reached_more, reached_new}
 
 -- what holds of every ledger that calls have made of a new one, m being its cohort
 pub record Kept (m : cohorts.Meaning) (l : Ledger) : Type 0 where

@@ -1,5 +1,5 @@
 -- Sums of shares. Assumes nothing.
-use Rattle.std.proofs.Common.{◌≡◌, ℕ, zero, suc, ◌+◌, ◌<◌, ◌≤◌, Bool, true, false, cond, eqb, List, [], ◌∷◌, ◌++◌, length, get_or, ℤ, pos, ◌+ℤ◌, neg_ℤ, Some, None, Option, sym, refl, ap, ◌∙◌, arith}
+use Rattle.std.proofs.Common.{◌≡◌, ℕ, zero, suc, ◌+◌, ◌<◌, Bool, true, false, cond, eqb, List, [], ◌∷◌, ◌++◌, length, get_or, ℤ, pos, ◌+ℤ◌, neg_ℤ, Some, None, Option, sym, refl, ap, ◌∙◌, arith}
 use lib.IntN.{+ℤ_assoc, +ℤ_idl, +ℤ_idr, neg_ℤ-+ℤ}
 use Rattle.std.proofs.lemmas.Int.{ints}
 use Rattle.values.specs.Cohorts.{Meaning}
@@ -10,8 +10,8 @@ use Rattle.register.specs.declared.kind.MovementKind.{MovementKind}
 use Rattle.register.specs.declared.kind.MovementKind.TheVariants as kind
 use Rattle.cube.specs.declared.terms.Direction.TheVariants.{Added, TakenOff}
 use Rattle.cube.specs.declared.terms.Terms.{Terms}
-use Rattle.cube.specs.Brings.{claim_part_from, count_under, directed, in_time, movement_at, standing_part, terms_shares, timed}
-use Rattle.cube.specs.Sheets.{Share, claim_shares, movement_shares}
+use Rattle.cube.specs.Brings.{count_under, in_time, movement_at, standing_part, terms_shares}
+use Rattle.cube.specs.Sheets.{Share, movement_shares}
 use Rattle.cube.specs.Triangles.{sum_at, triangle_from, triangle_part}
 use Rattle.register.specs.Entries.{entry_in, is_opening, kind_in, stands_in}
 use Rattle.cube.specs.Brings.{terms_at}

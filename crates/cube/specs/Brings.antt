@@ -1,5 +1,5 @@
 -- What an entry brings to the sheet, by the list of entries before it. Assumes nothing.
-use Rattle.std.specs.Prelude.{ℕ, ◌+◌, Bool, true, cond, ◌&&◌, List, [], ◌∷◌, ◌++◌, ℤ, pos, neg_ℤ, Some, None, Option, ◌==◌, nat_le}
+use Rattle.std.specs.Prelude.{ℕ, ◌+◌, Bool, true, cond, List, [], ◌∷◌, ◌++◌, ℤ, pos, neg_ℤ, Some, None, Option, ◌==◌, nat_le}
 use Rattle.values.specs.Cohorts.{Meaning}
 use Rattle.values.specs.declared.claim_days.ClaimDays.{ClaimDays}
 use Rattle.values.specs.declared.day.Day.{Day}

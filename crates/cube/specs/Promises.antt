@@ -1,9 +1,8 @@
 -- What is promised of every row of calls from a new cube on. Assumes nothing.
-use Rattle.std.specs.Prelude.{◌≡◌, ℕ, ◌<◌, ◌≤◌, cond, List, [], ◌∷◌, length, replicate, ℤ, pos, negsuc, ◌+ℤ◌, neg_ℤ, ◌≤ℤ◌, Some, None, filter, Option, slice_index_or}
+use Rattle.std.specs.Prelude.{◌≡◌, ℕ, ◌<◌, ◌≤◌, cond, List, [], ◌∷◌, length, replicate, ℤ, pos, ◌+ℤ◌, neg_ℤ, ◌≤ℤ◌, Some, None, filter, Option, slice_index_or}
 use Rattle.values.specs.declared.day.Day.{Day}
 use Rattle.register.specs.declared.entry.Entry.{Entry}
 use Rattle.cube.specs.Calls.{Call, Ledger, after, brought_in, entry_of, next}
-use Rattle.cube.specs.Model.{State}
 use Rattle.cube.specs.Queries.{is_booked_by, known_on, queried}
 use Rattle.cube.specs.Sheets.{sheet_length}
 use Rattle.cube.specs.Triangles.{sum_at, triangle}

@@ -1,5 +1,5 @@
 -- A sheet: the cells of three triangles, one for each measure, and how movements fall into them. Assumes nothing.
-use Rattle.std.specs.Prelude.{ℕ, ◌+◌, ◌*◌, cond, List, [], ◌∷◌, ℤ, pos, ◌+ℤ◌, neg_ℤ, slice_index_or, slice_set}
+use Rattle.std.specs.Prelude.{ℕ, ◌+◌, ◌*◌, List, [], ◌∷◌, ℤ, pos, ◌+ℤ◌, slice_index_or, slice_set}
 use Rattle.std.specs.Int.{int_wrap, w64}
 use Rattle.values.specs.Cohorts.{Meaning}
 use Rattle.values.specs.declared.claim_days.ClaimDays.{ClaimDays}

@@ -1,4 +1,6 @@
 // The cube: triangles over a register of claim entries.
+#![tactic(auto)]
+
 mod brings;
 pub mod cube;
 pub mod fault;

@@ -28,7 +28,7 @@ returns-then-is_opening g c =
     let t = c.args.tables.now in
     let e = c.in-Some.entry in
     let dated = c.in-Some-claim_days_of.ensures ∙ days_read book t c.requires.tables c.args.number e (g.R.Register.sound c.args.register.now).claims c.requires.number c.in-Some.ensures in
-    c.add_count.ensures ∙ ap (added_all c.args.sheet.now) (part_opening (g.C.Cohort.meaning c.args.cohort.now) c.args.valued (take t.count book.entries) c.args.number e c.in-Some.ensures c.in-Some-claim_days_of.claim-days dated (sym c.if-is_opening.ensures))
+    c.add_count.ensures ∙ ap (added_all c.args.sheet.now) (part_opening (g.C.Cohort.meaning c.args.cohort.now) c.args.valued (take t.count book.entries) c.args.number e c.in-Some.ensures c.in-Some-claim_days_of.claim_days dated (sym c.if-is_opening.ensures))
 
 pub returns-then-stands : goal.returns-then-stands
 returns-then-stands g c =
@@ -36,7 +36,7 @@ returns-then-stands g c =
     let m = g.C.Cohort.meaning c.args.cohort.now in
     let t = c.args.tables.now in
     let e = c.in-Some.entry in
-    let days = c.in-Some-claim_days_of.claim-days in
+    let days = c.in-Some-claim_days_of.claim_days in
     let dated = c.in-Some-claim_days_of.ensures ∙ days_read book t c.requires.tables c.args.number e (g.R.Register.sound c.args.register.now).claims c.requires.number c.in-Some.ensures in
     let stands = sym (c.if-stands.ensures ∙ ap (λ b. is_movement e && not b) (replaced_read book t c.requires.tables c.args.number c.requires.number)) in
     let shares = ap (λ k. terms_shares m c.args.valued days Added k c.terms_of.result) c.kind_among-kind.ensures ∙ ap (terms_shares m c.args.valued days Added _) c.terms_of.ensures in
@@ -49,4 +49,4 @@ returns-else-stands g c =
     let e = c.in-Some.entry in
     let dated = c.in-Some-claim_days_of.ensures ∙ days_read book t c.requires.tables c.args.number e (g.R.Register.sound c.args.register.now).claims c.requires.number c.in-Some.ensures in
     let fallen = sym (c.if-stands.ensures ∙ ap (λ b. is_movement e && not b) (replaced_read book t c.requires.tables c.args.number c.requires.number)) in
-    ap (added_all c.args.sheet.now) (part_neither (g.C.Cohort.meaning c.args.cohort.now) c.args.valued (take t.count book.entries) c.args.number e c.in-Some.ensures c.in-Some-claim_days_of.claim-days dated (sym c.if-is_opening.ensures) fallen)
+    ap (added_all c.args.sheet.now) (part_neither (g.C.Cohort.meaning c.args.cohort.now) c.args.valued (take t.count book.entries) c.args.number e c.in-Some.ensures c.in-Some-claim_days_of.claim_days dated (sym c.if-is_opening.ensures) fallen)

@@ -1,4 +1,4 @@
-use Rattle.std.proofs.Common.{true, sym, ap, ◌∙◌, arith}
+use Rattle.std.proofs.Common.{sym, ◌∙◌, arith}
 use Rattle.std.proofs.lemmas.Bool.{cond-true, cond-false}
 use Rattle.cube.proofs.Claims.{replaces_some, replaces_none}
 use Rattle.cube.proofs.reading.is_replaced.Goals as goal

@@ -5,12 +5,12 @@ use Rattle.cube.proofs.cube.Cube.check_movement.Goals as goal
 pub returns : goal.returns
 returns g c =
     let r = c.args.self.now.register in
-    let passed = c.in_ok-check-booking.ensures.passed in
+    let passed = c.in_ok-check_booking.ensures.passed in
     record {
       verdict = search rules;
       accepted = record {
         fits = passed.0;
-        claim = days_known (g.R.Register.meaning r).bound (g.R.Register.meaning r).entries c.args.claim c.in-Some.claim-days (g.R.Register.sound r).claims c.in-Some.ensures;
+        claim = days_known (g.R.Register.meaning r).bound (g.R.Register.meaning r).entries c.args.claim c.in-Some.claim_days (g.R.Register.sound r).claims c.in-Some.ensures;
         room = passed.1;
       };
     }

@@ -5,7 +5,7 @@ use Rattle.cube.proofs.cube.Cube.check_void.Goals as goal
 pub returns : goal.returns
 returns g c =
     let r = c.args.self.now.register in
-    let passed = c.in_ok-check-booking.ensures.passed in
+    let passed = c.in_ok-check_booking.ensures.passed in
     record {
       verdict = search rules;
       accepted = record {

@@ -8,7 +8,7 @@ use Rattle.cube.proofs.cube.Cube.drop_all.Goals as goal
 pub loop-ticket-preserved : goal.loop-ticket-preserved
 loop-ticket-preserved g c =
     let s = state_of g.R.Register.meaning g.C.Cohort.meaning c.loop-ticket.self in
-    ap (λ (q : State). dropped_all q (vec_items c.pop.new.self)) c.drop-draft.ensures.state
+    ap (λ (q : State). dropped_all q (vec_items c.pop.new.self)) c.drop_draft.ensures.next
     ∙ sym (dropped_last s (vec_items c.pop.new.self) c.in-Some.ticket)
     ∙ ap (dropped_all s) (sym c.in-Some.ensures.items)
     ∙ c.loop-ticket.invariant

@@ -10,9 +10,9 @@ returns g c =
     let es = (g.R.Register.meaning c.args.self.now.register).entries in
     let m = g.C.Cohort.meaning c.args.self.now.cohort in
     let valued = Some c.args.valued in
-    let cleared = c.fill.ensures.after (λ _ is. is) ∙ ap (λ n. replicate n (pos 0)) (c.if-answer-sheet-length.false ∙ c.sheet-length.ensures) in
-    let count = c.in-Ok.ensures.count ∙ c.booked-by-count.ensures in
-    let added : c.add-triangle.new.sheet ≡ added_all c.fill.new.self (triangle m valued (take c.in-Ok.tables.count es)) = c.add-triangle.ensures in
+    let cleared = c.fill.ensures.after (λ _ is. is) ∙ ap (λ n. replicate n (pos 0)) (c.if-answer-sheet_length.false ∙ c.sheet_length.ensures) in
+    let count = c.in-Ok.ensures.count ∙ c.booked_by-count.ensures in
+    let added : c.add_triangle.new.sheet ≡ added_all c.fill.new.self (triangle m valued (take c.in-Ok.tables.count es)) = c.add_triangle.ensures in
     let drawn =
     added
     ∙ ap (λ cells. added_all cells (triangle m valued (take c.in-Ok.tables.count es))) cleared

@@ -1,6 +1,6 @@
-use Rattle.std.proofs.Common.{◌≡◌, map, length, take, vec_items, sym, refl, ap, ◌∙◌, arith}
+use Rattle.std.proofs.Common.{map, length, vec_items, sym, refl, ap, ◌∙◌, arith}
 use Rattle.cube.specs.Cubes.{desk_of}
-use Rattle.cube.specs.Runs.{Desk, desk_after, desk_next, reply_to, told}
+use Rattle.cube.specs.Runs.{Desk, desk_next, reply_to, told}
 use Rattle.cube.proofs.Requests.{desk_more, ran, replies_more}
 use Rattle.cube.proofs.cube.Cube.run.Goals as goal
 
@@ -26,11 +26,11 @@ loop-request-preserved g c =
     let row = c.args.row.now in
     let r = c.request-item.result in
     let served = c.in-Ok-serve.ensures in (
-      ap (map told) c.push-reserved.ensures.items
+      ap (map told) c.push_reserved.ensures.items
           ∙ replies_more before row l.request-index r (omega arith) c.request-item.is (vec_items l.answers) c.in-Ok-serve.answer l.invariant.0 (served.0 ∙ ap (λ (d : Desk). reply_to d r) l.invariant.1),
       desk_more before row l.request-index r (omega arith) c.request-item.is _ (served.1 ∙ ap (λ (d : Desk). desk_next d r) l.invariant.1),
-      omega (arith, c.push-reserved.ensures.len, l.invariant.2),
-      omega (arith, c.push-reserved.ensures.capacity, l.invariant.3),
+      omega (arith, c.push_reserved.ensures.len, l.invariant.2),
+      omega (arith, c.push_reserved.ensures.capacity, l.invariant.3),
     )
 
 pub returns : goal.returns

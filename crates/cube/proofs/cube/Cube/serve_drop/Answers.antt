@@ -1,7 +1,7 @@
-use Rattle.std.proofs.Common.{List, ℤ, vec_items, sym, refl, ap, ◌∙◌, arith}
+use Rattle.std.proofs.Common.{vec_items, refl, ap, arith}
 use Rattle.cube.specs.declared.request.Answer.TheVariants as answer
 use Rattle.cube.specs.Cubes.{desk_of}
-use Rattle.cube.specs.Runs.{Desk, Told, told_of}
+use Rattle.cube.specs.Runs.{Told, told_of}
 use Rattle.cube.proofs.Desks.{drop_none, drop_served, ticket_at}
 use Rattle.cube.proofs.cube.Cube.serve_drop.Goals as goal
 
@@ -14,13 +14,13 @@ returns-in-Ok g c = λ sheet.
     let d = desk_of g.R.Register.meaning g.C.Cohort.meaning c.args.self.now sheet (vec_items c.args.drawer.now) in
     let at = ticket_at (vec_items c.args.drawer.now) c.args.place c.remove-ticket.result (omega (arith, c.args.drawer.now.ok.0)) c.remove-ticket.ensures.value in
     drop_served d c.args.place c.remove-ticket.result at answer.Dropped
-    (desk_of g.R.Register.meaning g.C.Cohort.meaning c.drop-draft.new.self sheet (vec_items c.remove-ticket.new.self))
-    (ap (told_of (λ _. Told.Dropped)) c.in-Ok.ensures.answer) c.drop-draft.ensures.state refl c.remove-ticket.ensures.items
+    (desk_of g.R.Register.meaning g.C.Cohort.meaning c.drop_draft.new.self sheet (vec_items c.remove-ticket.new.self))
+    (ap (told_of (λ _. Told.Dropped)) c.in-Ok.ensures.answer) c.drop_draft.ensures.next refl c.remove-ticket.ensures.items
 
 pub returns-in-Err : goal.returns-in-Err
 returns-in-Err g c = λ sheet.
     let d = desk_of g.R.Register.meaning g.C.Cohort.meaning c.args.self.now sheet (vec_items c.args.drawer.now) in
     let at = ticket_at (vec_items c.args.drawer.now) c.args.place c.remove-ticket.result (omega (arith, c.args.drawer.now.ok.0)) c.remove-ticket.ensures.value in
     drop_served d c.args.place c.remove-ticket.result at (answer.Refused c.in-Err.fault)
-    (desk_of g.R.Register.meaning g.C.Cohort.meaning c.drop-draft.new.self sheet (vec_items c.remove-ticket.new.self))
-    (ap (told_of (λ _. Told.Dropped)) c.in-Err.ensures.answer) c.drop-draft.ensures.state refl c.remove-ticket.ensures.items
+    (desk_of g.R.Register.meaning g.C.Cohort.meaning c.drop_draft.new.self sheet (vec_items c.remove-ticket.new.self))
+    (ap (told_of (λ _. Told.Dropped)) c.in-Err.ensures.answer) c.drop_draft.ensures.next refl c.remove-ticket.ensures.items

@@ -1,4 +1,4 @@
-use Rattle.std.proofs.Common.{List, is_ok, vec_items, sym, refl, ap, ◌∙◌, arith}
+use Rattle.std.proofs.Common.{List, is_ok, vec_items, ap, ◌∙◌, arith}
 use Rattle.std.specs.List.{insert}
 use Rattle.cube.specs.declared.ticket.Ticket.{Ticket}
 use Rattle.std.proofs.lemmas.Bool.{cond-true}

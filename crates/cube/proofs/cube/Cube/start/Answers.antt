@@ -1,7 +1,6 @@
 use Rattle.std.proofs.Common.{◌≡◌, length, Ok, sym, refl, rules}
-use Rattle.cube.specs.Cubes.{ledger_of, state_of}
+use Rattle.cube.specs.Cubes.{state_of}
 use Rattle.cube.specs.Model.{start_answer}
-use Rattle.cube.specs.Promises.{New}
 use Rattle.cube.proofs.Joins.{start_new}
 use Rattle.cube.proofs.Rows.{promised}
 use Rattle.cube.proofs.cube.Cube.start.Goals as goal

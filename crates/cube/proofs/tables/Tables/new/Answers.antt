@@ -8,8 +8,8 @@ pub returns : goal.returns
 returns c =
     record {
       tables = record {
-        days = c.in_ok-claim_days.ensures.items-if-clones-equal (only_none _ (λ _ no. no)) ∙ counted_one (claim_days_in []) None (λ _. refl) 0 (c.args.claim-bound + 1);
-        replaced = c.in_ok-replaced.ensures.items-if-clones-equal (λ y is. is) ∙ counted_one (is_replaced_in []) false none_replaced 0 (c.args.count + 1);
+        days = c.in_ok-claim_days.ensures.items_if_clones_equal (only_none _ (λ _ no. no)) ∙ counted_one (claim_days_in []) None (λ _. refl) 0 (c.args.claim_bound + 1);
+        replaced = c.in_ok-replaced.ensures.items_if_clones_equal (λ y is. is) ∙ counted_one (is_replaced_in []) false none_replaced 0 (c.args.count + 1);
       };
       count = refl;
     }
