@@ -1,4 +1,6 @@
 // Examples of the calls on a cube, on both registers.
+#![tactic(auto)]
+
 #[cfg(test)]
 mod tests {
     use cube::cube::Cube;

@@ -1,4 +1,6 @@
 // The cube at full size on both registers: a large book is booked, and its triangles are queried as known on several days.
+#![tactic(auto)]
+
 mod book;
 mod booking;
 mod figures;

@@ -1,4 +1,6 @@
 // A run at full size on both registers: a large book is booked, and read back by claim and by number.
+#![tactic(auto)]
+
 mod book;
 mod plan;
 mod random;

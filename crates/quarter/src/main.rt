@@ -1,4 +1,6 @@
 // Runs a quarter of claims business on both registers, and tells it step by step.
+#![tactic(auto)]
+
 mod asking;
 mod book;
 mod compare;

@@ -1,4 +1,6 @@
 // Keeps the same small book of claims on both registers, and holds their answers against each other.
+#![tactic(auto)]
+
 mod book;
 mod compare;
 mod keep;

@@ -1,4 +1,6 @@
 // Examples of the values: days, amounts, claim days and cohorts.
+#![tactic(auto)]
+
 #[cfg(test)]
 mod tests {
     use std::test::Fail;

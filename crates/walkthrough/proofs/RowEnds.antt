@@ -1,5 +1,5 @@
 -- A row of a triangle ends where the next one begins, or the cell for what is beyond. Assumes nothing.
-use Rattle.std.proofs.Common.{ℕ, ◌+◌, ◌*◌, ◌<◌, ◌≤◌, le_refl, add-mul, arith}
+use Rattle.std.proofs.Common.{ℕ, ◌+◌, ◌<◌, ◌≤◌, le_refl, add-mul, arith}
 use Rattle.std.proofs.lemmas.Nat.{mul-le}
 use Rattle.walkthrough.specs.Shapes.{row_start}
 use Rattle.walkthrough.specs.declared.shape.Shape.{Shape}

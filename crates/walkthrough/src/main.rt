@@ -1,4 +1,6 @@
 // Draws a paid triangle from dated payments read from standard input, and says each step.
+#![tactic(auto)]
+
 mod booking;
 mod opening;
 mod payment;

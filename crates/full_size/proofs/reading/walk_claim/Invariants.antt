@@ -1,4 +1,4 @@
-use Rattle.std.proofs.Common.{◌≡◌, ◌-◌, ◌≤◌, length, drop}
+use Rattle.std.proofs.Common.{◌≡◌, ◌-◌, length, drop}
 use Rattle.full_size.specs.Readings.{walked}
 use Rattle.full_size.proofs.reading.walk_claim.Given as goal
 
