@@ -2,7 +2,7 @@
 # What booking and querying a cube cost, side by side: the proved program on both registers, plain Rust over the same two
 # layouts, and SQLite in memory.
 #
-#   bench/cube.sh [PROGRAM]     target/bin/full_cube, as `rt check full_cube` leaves it, or another build of it
+#   bench/cube.sh [PROGRAM]     crates/full_cube/out/full_cube, as `rt run` leaves it, or another build of it
 #
 # All work on the book that `full_cube book` writes, at two sizes, and must give the same figures for six questions. A booked
 # entry is an average over the book, refused requests and the making of the register included; a query is the one over every
@@ -11,7 +11,7 @@
 # on the paged register takes more than three times as long as in plain Rust.
 set -euo pipefail
 cd "$(dirname "$0")/.."
-program=${1:-target/bin/full_cube}
+program=${1:-crates/full_cube/out/full_cube}
 work=$(mktemp -d)
 trap 'rm -rf "$work"' EXIT
 PATH=$PATH:${CARGO_HOME:-$HOME/.cargo}/bin

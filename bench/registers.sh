@@ -1,7 +1,7 @@
 #!/usr/bin/env bash
 # What an adding and a step of a walk cost on each register, at two sizes of the book.
 #
-#   bench/registers.sh [PROGRAM]     target/bin/full_size, as `rt check full_size` leaves it, or another build of it
+#   bench/registers.sh [PROGRAM]     crates/full_size/out/full_size, as `rt run` leaves it, or another build of it
 #
 # A step is one call for the next entry of a claim; a walk over every claim takes a step for each entry, and one for each
 # claim that finds no more. Each figure is the difference of two runs that differ only in how often they walk, or book:
@@ -10,7 +10,7 @@
 # more than a twentieth more instructions in the large book than in the small one.
 set -euo pipefail
 cd "$(dirname "$0")/.."
-program=${1:-target/bin/full_size}
+program=${1:-crates/full_size/out/full_size}
 small=(3000 400)
 large=(30000 4000)
 
