@@ -265,8 +265,7 @@ mod tests {
         };
         let mut slots = vec![in rt.alloc(); entry; 32]?;
         book(&rt, FlatLog::new(&mut slots, 4))?;
-        correct(&rt, FlatLog::new(&mut slots, 4))?;
-        recall(&rt, rt.alloc(), FlatLog::new(&mut slots, 4))
+        correct(&rt, FlatLog::new(&mut slots, 4))
     }
 
     #[test]
@@ -294,7 +293,37 @@ mod tests {
         correct(
             &rt,
             PagedRegister::new(&mut pages, &mut slots, &mut claims, &mut places),
-        )?;
+        )
+    }
+
+    #[test]
+    fn flat_rows(rt: HostRuntime) -> Result<(), Fail> {
+        let entry = Entry {
+            booked: Day::new(20_200_101)?,
+            claim: 7,
+            content: Content::Void(Void { names: 3 }),
+        };
+        let mut slots = vec![in rt.alloc(); entry; 32]?;
+        recall(&rt, rt.alloc(), FlatLog::new(&mut slots, 4))
+    }
+
+    #[test]
+    fn paged_rows(rt: HostRuntime) -> Result<(), Fail> {
+        let entry = Entry {
+            booked: Day::new(20_200_101)?,
+            claim: 7,
+            content: Content::Void(Void { names: 3 }),
+        };
+        let slot = NumberedEntry { number: 9, entry };
+        let heap = rt.alloc();
+        let mut pages = vec![in heap; PageCard { next: 3 }; 8]?;
+        let mut slots = vec![in heap; slot; 128]?;
+        let mut claims = vec![in heap; ClaimCard {
+            first: 1,
+            last: 2,
+            spare: 3
+        }; 4]?;
+        let mut places = vec![in heap; 5u32; 64]?;
         recall(
             &rt,
             heap,

@@ -9,5 +9,11 @@ pub returns : goal.returns
 returns g c =
     let s = state_of g.R.Register.meaning g.C.Cohort.meaning c.args.self.now in
     let accepted : Ok tt ≡ start_answer s (length c.args.sheet.now) = search rules in
-    let new = start_new s c.args.mark c.args.sheet.now c.fill.new.self (sym accepted) (search rules) (g.R.Register.sound c.args.self.now.register).few_entries in
-    record { answer = accepted; state = refl; sheet = search rules; new = new; law = promised _ new }
+    let few = (g.R.Register.sound c.args.self.now.register).few_entries in
+    record {
+      answer = accepted;
+      state = refl;
+      sheet = search rules;
+      new = start_new s c.args.mark c.args.sheet.now _ (sym accepted) (search rules) few;
+      law = promised _ (start_new s c.args.mark c.args.sheet.now _ (sym accepted) (search rules) few);
+    }
