@@ -22,16 +22,16 @@ use Rattle.cube.proofs.Law.{Follows}
 use Rattle.cube.proofs.Reached.{Reached}
 
 -- a chain of checks that passed
-passed : {X Y : Type 0} (r : Result X CallFault) (f : X → Result Y CallFault) (y : Y) → and_then r f ≡ Ok y → (x : X) × (r ≡ Ok x) × (f x ≡ Ok y)
+pub passed : {X Y : Type 0} (r : Result X CallFault) (f : X → Result Y CallFault) (y : Y) → and_then r f ≡ Ok y → (x : X) × (r ≡ Ok x) × (f x ≡ Ok y)
 passed (Ok x) f y is = (x, refl, is)
 passed (Err fault) f y is = absurd (let z : ◌≡◌ {A = ℕ} 0 1 = cc in omega arith)
 
 -- a check that passed
-held : (b : Bool) (fault : CallFault) (x : Unit {0}) → refused_if b fault ≡ Ok x → b ≡ false
+pub held : (b : Bool) (fault : CallFault) (x : Unit {0}) → refused_if b fault ≡ Ok x → b ≡ false
 held true fault x is = absurd (let z : ◌≡◌ {A = ℕ} 0 1 = cc in omega arith)
 held false fault x is = refl
 
-there : {X : Type 0} (o : Option X) (fault : CallFault) (x : X) → or_fault o fault ≡ Ok x → o ≡ Some x
+pub there : {X : Type 0} (o : Option X) (fault : CallFault) (x : X) → or_fault o fault ≡ Ok x → o ≡ Some x
 there None fault x is = absurd (let z : ◌≡◌ {A = ℕ} 0 1 = cc in omega arith)
 there (Some y) fault x is = cc
 
@@ -163,6 +163,25 @@ module _ (s : State) (reached : Reached s.book.entries s.draft) (sheet : ℕ) (b
         timely = effect_held d.0 effective booked f.0 f.1;
         later = first.0;
       })
+
+  -- so each accepted entry follows the list
+  abbrev Fits : Entry → Type 0
+  Fits e = Follows es e.claim e.content
+
+  pub open_follows : (days : ClaimDays) (e : Entry) → open_entry s sheet booked days ≡ Ok e → Fits e
+  open_follows days e is = (open_joins days e is).follows
+
+  pub move_follows : (k : MovementKind) (claim : ℕ) (effective : Day) (amount : Amount) (e : Entry) → move_entry s sheet k booked claim effective amount ≡ Ok e → Fits e
+  move_follows k claim effective amount e is = (move_joins k claim effective amount e is).follows
+
+  pub void_follows : (n : ℕ) (e : Entry) → void_entry s sheet booked n ≡ Ok e → Fits e
+  void_follows n e is = (void_joins n e is).follows
+
+  pub redate_follows : (claim : ℕ) (days : ClaimDays) (e : Entry) → redate_entry s sheet booked claim days ≡ Ok e → Fits e
+  redate_follows claim days e is = (redate_joins claim days e is).follows
+
+  pub post_follows : (ticket : Ticket) (effective : Day) (amount : Amount) (e : Entry) → post_entry s sheet ticket booked effective amount ≡ Ok e → Fits e
+  post_follows ticket effective amount e is = (post_joins ticket effective amount e is).follows
 
 -- the movement that is drafted stands
 pub draft_stands : (s : State) (n : ℕ) (ticket : Ticket) → draft_ticket s n ≡ Ok ticket → stands_in s.book.entries ticket.entry ≡ true

@@ -45,4 +45,4 @@ queried s known valued = triangle_sheet s.cohort (Some valued) (known_on known s
 abbrev pub Answered : State → (known valued : Day) → Result (Unit {0}) QueryFault → (before after : List ℤ) → Type 0
 Answered s known valued (Ok _) before after = (query_checked s (length before) ≡ Ok tt) × (after ≡ queried s known valued)
 Answered s known valued (Err (Refused fault)) before after = (query_checked s (length before) ≡ Err fault) × (after ≡ before)
-Answered s known valued (Err OutOfMemory) before after = (query_checked s (length before) ≡ Ok tt) × (after ≡ before)
+Answered s known valued (Err (OutOfMemory _)) before after = (query_checked s (length before) ≡ Ok tt) × (after ≡ before)

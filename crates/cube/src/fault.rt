@@ -2,6 +2,8 @@
 ghost use Rattle.std.specs.Prelude.{◌≡◌};
 ghost use Rattle.cube.specs.Faults.{call_fault_number};
 
+use std::alloc::AllocError;
+
 // The reasons, each with its refusal number; a refused call alters nothing.
 #[derive(Clone, Copy, PartialEq, Debug)]
 pub enum CallFault {
@@ -43,7 +45,7 @@ pub enum CallFault {
 #[derive(Clone, Copy, PartialEq, Debug)]
 pub enum QueryFault {
     Refused(CallFault),
-    OutOfMemory,
+    OutOfMemory(AllocError),
 }
 
 impl CallFault {

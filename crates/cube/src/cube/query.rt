@@ -28,8 +28,9 @@ impl<R: Register, C: Cohort> Cube<R, C> {
             return Err(QueryFault::Refused(CallFault::SheetLength));
         }
         let count = booked_by(&self.register, known);
-        let Ok(tables) = Tables::of(heap, &self.register, count) else {
-            return Err(QueryFault::OutOfMemory);
+        let tables = match Tables::of(heap, &self.register, count) {
+            Ok(tables) => tables,
+            Err(error) => return Err(QueryFault::OutOfMemory(error)),
         };
         answer.fill(0);
         add_triangle(&self.register, &self.cohort, answer, &tables, Some(valued));

@@ -98,7 +98,7 @@ impl<R: Register, C: Cohort> Cube<R, C> {
         match self.query(heap, known, valued, cells.as_mut_slice()) {
             Ok(()) => Ok(Answer::Drawn(cells)),
             Err(QueryFault::Refused(fault)) => Ok(Answer::Refused(fault)),
-            Err(QueryFault::OutOfMemory) => Err(AllocError),
+            Err(QueryFault::OutOfMemory(error)) => Err(error),
         }
     }
 
