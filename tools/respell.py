@@ -47,11 +47,6 @@ def proof_of_function(path):
     return re.search(r"/proofs/.+/", path) is not None
 
 
-def code_and_comment(line, mark):
-    at = line.find(mark)
-    return (line, "") if at < 0 else (line[:at], line[at:])
-
-
 def body_of(path):
     """The Rust names that the function whose goals the file answers is written with."""
     crate, rest = re.match(r"(crates/\w+)/proofs/(.*)/\w+\.antt$", path).groups()
@@ -72,7 +67,6 @@ def body_of(path):
 
 
 MADE = {"in_ok", "in_err", "in_default", "in_loop", "slice_bounds", "offset_bounds", "index_mut", "invariant_of", "overflow_add", "overflow_sub", "overflow_mul", "overflow_cast", "overflow_step", "as_ref"}
-PLAIN = {"loop", "if", "then", "else", "not", "in", "returns", "invariant", "decreases", "requires", "result", "test"}
 
 
 def respelled(name, words):

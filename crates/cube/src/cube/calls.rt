@@ -2,7 +2,7 @@
 ghost use Rattle.std.specs.Prelude.{◌≡◌, length, IfOk};
 ghost use Rattle.cube.specs.Booking.{Bookable};
 ghost use Rattle.cube.specs.Cubes.{state_of};
-ghost use Rattle.cube.specs.Model.{after_post, move_entry, movement_content, number_told, open_entry, open_told, post_entry, post_told, redate_entry, sheet_after, state_after, void_entry};
+ghost use Rattle.cube.specs.Model.{move_entry, movement_content, number_told, open_entry, open_told, redate_entry, sheet_after, state_after, void_entry};
 
 use super::Cube;
 use super::checks::{check_days, check_effective, moved_before, refused_if, standing_movement};

@@ -2,7 +2,6 @@
 ghost use Rattle.std.specs.Prelude.{◌≡◌, length, IfOk, None, OnOk};
 ghost use Rattle.cube.specs.Booking.{Bookable};
 ghost use Rattle.cube.specs.Cubes.{ledger_of, state_of};
-ghost use Rattle.cube.specs.Calls.{Call, state_next};
 ghost use Rattle.cube.specs.Promises.{Lawful, New};
 ghost use Rattle.cube.specs.Model.{after_draft, after_drop, after_post, after_start, draft_ticket, drop_answer, is_open_draft, post_entry, post_told, sheet_after, sheet_started, start_answer};
 
@@ -56,7 +55,6 @@ impl<R: Register, C: Cohort> Cube<R, C> {
     pub fn draft(&mut self, number: u32) -> Result<Ticket, CallFault>
         ensures answer { result ≡ draft_ticket (state_of R.Register.meaning C.Cohort.meaning self.old) number }
         ensures state { state_of R.Register.meaning C.Cohort.meaning self.new ≡ after_draft (state_of R.Register.meaning C.Cohort.meaning self.old) result }
-        ensures next { state_of R.Register.meaning C.Cohort.meaning self.new ≡ state_next (state_of R.Register.meaning C.Cohort.meaning self.old) (Call.Draft number) }
     {
         standing_movement(&self.register, number)?;
         refused_if(self.draft.is_some(), CallFault::UnderDraft)?;
@@ -78,7 +76,6 @@ impl<R: Register, C: Cohort> Cube<R, C> {
     pub fn drop_draft(&mut self, ticket: Ticket) -> Result<(), CallFault>
         ensures answer { result ≡ drop_answer (state_of R.Register.meaning C.Cohort.meaning self.old) ticket }
         ensures state { state_of R.Register.meaning C.Cohort.meaning self.new ≡ after_drop (state_of R.Register.meaning C.Cohort.meaning self.old) result }
-        ensures next { state_of R.Register.meaning C.Cohort.meaning self.new ≡ state_next (state_of R.Register.meaning C.Cohort.meaning self.old) (Call.Drop ticket) }
     {
         let open = self.is_open_draft(&ticket);
         let Ticket { mark: _, entry: _ } = ticket;
