@@ -14,7 +14,7 @@ use Rattle.register.specs.declared.kind.MovementKind.{MovementKind}
 use Rattle.register.specs.declared.kind.MovementKind.TheVariants as kind
 use Rattle.cube.specs.declared.measure.Measure.TheVariants as measure
 use Rattle.cube.specs.declared.terms.Direction.TheVariants.{Added}
-use Rattle.cube.specs.declared.terms.Terms.{Terms}
+use Rattle.register.specs.declared.entry.Terms.{Terms}
 use Rattle.cube.specs.Brings.{count_under, in_time, movement_at, standing_part, terms_at, terms_shares, under_days}
 use Rattle.cube.specs.Promises.{most_cents}
 use Rattle.cube.specs.Sheets.{Share, cell_of, movement_shares}

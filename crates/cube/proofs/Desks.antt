@@ -5,8 +5,8 @@ use Rattle.std.proofs.lemmas.Option.{slice_get-get_or, slice_get_past}
 use Rattle.std.proofs.lemmas.Bool.{cond-true, cond-false}
 use Rattle.std.specs.List.{insert, remove, slice_get}
 use Rattle.std.specs.Option.{option_map}
-use Rattle.values.specs.declared.amount.Amount.{Amount}
 use Rattle.values.specs.declared.day.Day.{Day}
+use Rattle.register.specs.declared.entry.Terms.{Terms}
 use Rattle.register.specs.declared.entry.Entry.{Entry}
 use Rattle.cube.specs.declared.fault.CallFault.{CallFault}
 use Rattle.cube.specs.declared.request.Answer.{Answer}
@@ -51,24 +51,24 @@ module _ (d : Desk) (place : ℕ) where
     desk_same end (desk_next d (request.Drop place)) (state ∙ ap (λ o. (ledger_next d.ledger (option_map Call.Drop o)).state) (sym at)) (sheet ∙ ap (λ o. (ledger_next d.ledger (option_map Call.Drop o)).sheet) (sym at)) drawer,
   )
 
-  module _ (booked effective : Day) (amount : Amount) where
+  module _ (booked : Day) (terms : Terms) where
     abbrev call : Ticket → Call
-    call ticket = Call.Post (length d.ledger.sheet) ticket booked effective amount
+    call ticket = Call.Post (length d.ledger.sheet) ticket booked terms
 
     abbrev verdict : Ticket → Result Entry CallFault
-    verdict ticket = post_entry d.ledger.state (length d.ledger.sheet) ticket booked effective amount
+    verdict ticket = post_entry d.ledger.state (length d.ledger.sheet) ticket booked terms
 
-    pub post_none : length d.drawer ≤ place → Served d (request.Post place booked effective amount) (Ok answer.NoTicket) d
+    pub post_none : length d.drawer ≤ place → Served d (request.Post place booked terms) (Ok answer.NoTicket) d
     post_none past =
         let none = slice_get_past d.drawer place past in (
           ap (λ o. answer_to d.ledger (option_map call o)) (sym none),
-          desk_same d (desk_next d (request.Post place booked effective amount)) (ap (λ o. (ledger_next d.ledger (option_map call o)).state) (sym none)) (ap (λ o. (ledger_next d.ledger (option_map call o)).sheet) (sym none)) (ap (λ o. spent_by d.drawer place o verdict) (sym none)),
+          desk_same d (desk_next d (request.Post place booked terms)) (ap (λ o. (ledger_next d.ledger (option_map call o)).state) (sym none)) (ap (λ o. (ledger_next d.ledger (option_map call o)).sheet) (sym none)) (ap (λ o. spent_by d.drawer place o verdict) (sym none)),
         )
 
-    posted : (ticket : Ticket) → slice_get d.drawer place ≡ Some ticket → (a : Answer) (end : Desk) → told a ≡ told_of Told.Booked (number_told d.ledger.state (verdict ticket)) → end.ledger.state ≡ state_next d.ledger.state (call ticket) → end.ledger.sheet ≡ sheet_next d.ledger.state (call ticket) d.ledger.sheet → end.drawer ≡ cond (is_ok (verdict ticket)) (remove d.drawer place) d.drawer → Served d (request.Post place booked effective amount) (Ok a) end
+    posted : (ticket : Ticket) → slice_get d.drawer place ≡ Some ticket → (a : Answer) (end : Desk) → told a ≡ told_of Told.Booked (number_told d.ledger.state (verdict ticket)) → end.ledger.state ≡ state_next d.ledger.state (call ticket) → end.ledger.sheet ≡ sheet_next d.ledger.state (call ticket) d.ledger.sheet → end.drawer ≡ cond (is_ok (verdict ticket)) (remove d.drawer place) d.drawer → Served d (request.Post place booked terms) (Ok a) end
     posted ticket at a end is state sheet drawer = (
       is ∙ ap (λ o. answer_to d.ledger (option_map call o)) (sym at),
-      desk_same end (desk_next d (request.Post place booked effective amount)) (state ∙ ap (λ o. (ledger_next d.ledger (option_map call o)).state) (sym at)) (sheet ∙ ap (λ o. (ledger_next d.ledger (option_map call o)).sheet) (sym at)) (drawer ∙ ap (λ o. spent_by d.drawer place o verdict) (sym at)),
+      desk_same end (desk_next d (request.Post place booked terms)) (state ∙ ap (λ o. (ledger_next d.ledger (option_map call o)).state) (sym at)) (sheet ∙ ap (λ o. (ledger_next d.ledger (option_map call o)).sheet) (sym at)) (drawer ∙ ap (λ o. spent_by d.drawer place o verdict) (sym at)),
     )
 
     -- what an accepted post told, and a refused one
@@ -82,12 +82,12 @@ module _ (d : Desk) (place : ℕ) where
         let both : ◌≡◌ {A = Ticket × CallFault} (back, fault) (ticket, f) = cc in
         (ap (λ (p : Ticket × CallFault). Told.Refused p.1) both, refl, ap (λ (p : Ticket × CallFault). p.0) both)
 
-    pub post_accepted : (ticket : Ticket) → slice_get d.drawer place ≡ Some ticket → (n : ℕ) (end : Desk) → Ok n ≡ post_told d.ledger.state ticket (verdict ticket) → end.ledger.state ≡ state_next d.ledger.state (call ticket) → end.ledger.sheet ≡ sheet_next d.ledger.state (call ticket) d.ledger.sheet → end.drawer ≡ remove d.drawer place → Served d (request.Post place booked effective amount) (Ok (answer.Booked n)) end
+    pub post_accepted : (ticket : Ticket) → slice_get d.drawer place ≡ Some ticket → (n : ℕ) (end : Desk) → Ok n ≡ post_told d.ledger.state ticket (verdict ticket) → end.ledger.state ≡ state_next d.ledger.state (call ticket) → end.ledger.sheet ≡ sheet_next d.ledger.state (call ticket) d.ledger.sheet → end.drawer ≡ remove d.drawer place → Served d (request.Post place booked terms) (Ok (answer.Booked n)) end
     post_accepted ticket at n end is state sheet drawer =
         let ok = told_ok d.ledger.state ticket (verdict ticket) n is in
         posted ticket at (answer.Booked n) end ok.0 state sheet (drawer ∙ sym (cond-true _ _ _ ok.1))
 
-    pub post_refused : (ticket back : Ticket) → slice_get d.drawer place ≡ Some ticket → place < length d.drawer → ticket ≡ get_or d.drawer place ticket → (fault : CallFault) (end : Desk) → Err (back, fault) ≡ post_told d.ledger.state ticket (verdict ticket) → end.ledger.state ≡ state_next d.ledger.state (call ticket) → end.ledger.sheet ≡ sheet_next d.ledger.state (call ticket) d.ledger.sheet → end.drawer ≡ insert (remove d.drawer place) place back → Served d (request.Post place booked effective amount) (Ok (answer.Refused fault)) end
+    pub post_refused : (ticket back : Ticket) → slice_get d.drawer place ≡ Some ticket → place < length d.drawer → ticket ≡ get_or d.drawer place ticket → (fault : CallFault) (end : Desk) → Err (back, fault) ≡ post_told d.ledger.state ticket (verdict ticket) → end.ledger.state ≡ state_next d.ledger.state (call ticket) → end.ledger.sheet ≡ sheet_next d.ledger.state (call ticket) d.ledger.sheet → end.drawer ≡ insert (remove d.drawer place) place back → Served d (request.Post place booked terms) (Ok (answer.Refused fault)) end
     post_refused ticket back at within was fault end is state sheet drawer =
         let err = told_err d.ledger.state ticket back (verdict ticket) fault is in
         posted ticket at (answer.Refused fault) end err.0 state sheet

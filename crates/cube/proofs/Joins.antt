@@ -3,10 +3,10 @@ use Rattle.std.proofs.Common.{◌≡◌, ℕ, ◌+◌, ◌≤◌, Bool, true, fa
 use Rattle.std.proofs.lemmas.List.{nil_from_length}
 use Rattle.std.proofs.lemmas.Bool.{and_parts, eqb-false, eqb-true, false≢true, ltb-false, ne_eqb, not-false}
 use Rattle.values.specs.Making.{and_then}
-use Rattle.values.specs.declared.amount.Amount.{Amount}
 use Rattle.values.specs.declared.claim_days.ClaimDays.{ClaimDays}
 use Rattle.values.specs.declared.day.Day.{Day}
 use Rattle.register.specs.Entries.{claim_days_in, entry_in, is_movement, is_number, is_opening, named_by, openings_in, stands_in}
+use Rattle.register.specs.declared.entry.Terms.{Terms}
 use Rattle.register.specs.declared.entry.Entry.{Entry}
 use Rattle.register.specs.declared.kind.MovementKind.{MovementKind}
 use Rattle.register.specs.declared.kind.MovementKind.TheVariants as kind
@@ -100,14 +100,14 @@ module _ (s : State) (reached : Reached s.book.entries s.draft) (sheet : ℕ) (b
         later = first.0;
       })
 
-  pub move_joins : (k : MovementKind) (claim : ℕ) (effective : Day) (amount : Amount) (e : Entry) → move_entry s sheet k booked claim effective amount ≡ Ok e → Joins s e s.draft
-  move_joins k claim effective amount e is =
+  pub move_joins : (k : MovementKind) (claim : ℕ) (terms : Terms) (e : Entry) → move_entry s sheet k booked claim terms ≡ Ok e → Joins s e s.draft
+  move_joins k claim terms e is =
       let a = passed (booking_checked s sheet booked) _ e is in
       let b = passed (or_fault (claim_days_in es claim) _) _ e a.2 in
-      let c = passed (effective_checked b.0 effective booked) _ e b.2 in
-      ended s.draft _ e c.2 (moved k b.0 (there (claim_days_in es claim) _ b.0 b.1) (booking_held a.0 a.1) (effect_held b.0 effective booked c.0 c.1))
+      let c = passed (effective_checked b.0 terms.effective booked) _ e b.2 in
+      ended s.draft _ e c.2 (moved k b.0 (there (claim_days_in es claim) _ b.0 b.1) (booking_held a.0 a.1) (effect_held b.0 terms.effective booked c.0 c.1))
     where
-      moved : (k : MovementKind) (days : ClaimDays) → claim_days_in es claim ≡ Some days → (booked_after (entry_in es (length es)) booked ≡ false) × (length es ≡ s.book.capacity → ⊥) → effective.number ≤ booked.number → Joins s (record { booked = booked; claim = claim; content = movement_content k effective amount }) s.draft
+      moved : (k : MovementKind) (days : ClaimDays) → claim_days_in es claim ≡ Some days → (booked_after (entry_in es (length es)) booked ≡ false) × (length es ≡ s.book.capacity → ⊥) → terms.effective.number ≤ booked.number → Joins s (record { booked = booked; claim = claim; content = movement_content k terms }) s.draft
       moved kind.Paid days is first early = record { room = first.1; follows = (days, is); next = λ no. absurd (false≢true no); kept = λ n is. (is, refl); timely = early; later = first.0 }
       moved kind.Reserved days is first early = record { room = first.1; follows = (days, is); next = λ no. absurd (false≢true no); kept = λ n is. (is, refl); timely = early; later = first.0 }
 
@@ -145,13 +145,13 @@ module _ (s : State) (reached : Reached s.book.entries s.draft) (sheet : ℕ) (b
         later = first.0;
       })
 
-  pub post_joins : (ticket : Ticket) (effective : Day) (amount : Amount) (e : Entry) → post_entry s sheet ticket booked effective amount ≡ Ok e → Joins s e None
-  post_joins ticket effective amount e is =
+  pub post_joins : (ticket : Ticket) (terms : Terms) (e : Entry) → post_entry s sheet ticket booked terms ≡ Ok e → Joins s e None
+  post_joins ticket terms e is =
       let a = passed (booking_checked s sheet booked) _ e is in
       let b = passed (refused_if (not (is_open_draft s ticket)) _) _ e a.2 in
       let c = passed (or_fault (entry_in es ticket.entry) _) _ e b.2 in
       let d = passed (or_fault (claim_days_in es c.0.claim) _) _ e c.2 in
-      let f = passed (effective_checked d.0 effective booked) _ e d.2 in
+      let f = passed (effective_checked d.0 terms.effective booked) _ e d.2 in
       let first = booking_held a.0 a.1 in
       let ours = not-false (is_open_draft s ticket) (held (not (is_open_draft s ticket)) _ b.0 b.1) in
       let drafted = on_draft_lem s.draft ticket.entry (and_parts (eqb ticket.mark s.mark) _ ours).1 in
@@ -160,7 +160,7 @@ module _ (s : State) (reached : Reached s.book.entries s.draft) (sheet : ℕ) (b
         follows = (d.0, c.0, there (claim_days_in es c.0.claim) _ d.0 d.1, there (entry_in es ticket.entry) _ c.0 c.1, refl, reached.drafted ticket.entry drafted);
         next = λ no. absurd (false≢true no);
         kept = λ n is. absurd (let z : ◌≡◌ {A = ℕ} 0 1 = cc in omega arith);
-        timely = effect_held d.0 effective booked f.0 f.1;
+        timely = effect_held d.0 terms.effective booked f.0 f.1;
         later = first.0;
       })
 
@@ -171,8 +171,8 @@ module _ (s : State) (reached : Reached s.book.entries s.draft) (sheet : ℕ) (b
   pub open_follows : (days : ClaimDays) (e : Entry) → open_entry s sheet booked days ≡ Ok e → Fits e
   open_follows days e is = (open_joins days e is).follows
 
-  pub move_follows : (k : MovementKind) (claim : ℕ) (effective : Day) (amount : Amount) (e : Entry) → move_entry s sheet k booked claim effective amount ≡ Ok e → Fits e
-  move_follows k claim effective amount e is = (move_joins k claim effective amount e is).follows
+  pub move_follows : (k : MovementKind) (claim : ℕ) (terms : Terms) (e : Entry) → move_entry s sheet k booked claim terms ≡ Ok e → Fits e
+  move_follows k claim terms e is = (move_joins k claim terms e is).follows
 
   pub void_follows : (n : ℕ) (e : Entry) → void_entry s sheet booked n ≡ Ok e → Fits e
   void_follows n e is = (void_joins n e is).follows
@@ -180,8 +180,8 @@ module _ (s : State) (reached : Reached s.book.entries s.draft) (sheet : ℕ) (b
   pub redate_follows : (claim : ℕ) (days : ClaimDays) (e : Entry) → redate_entry s sheet booked claim days ≡ Ok e → Fits e
   redate_follows claim days e is = (redate_joins claim days e is).follows
 
-  pub post_follows : (ticket : Ticket) (effective : Day) (amount : Amount) (e : Entry) → post_entry s sheet ticket booked effective amount ≡ Ok e → Fits e
-  post_follows ticket effective amount e is = (post_joins ticket effective amount e is).follows
+  pub post_follows : (ticket : Ticket) (terms : Terms) (e : Entry) → post_entry s sheet ticket booked terms ≡ Ok e → Fits e
+  post_follows ticket terms e is = (post_joins ticket terms e is).follows
 
 -- the movement that is drafted stands
 pub draft_stands : (s : State) (n : ℕ) (ticket : Ticket) → draft_ticket s n ≡ Ok ticket → stands_in s.book.entries ticket.entry ≡ true

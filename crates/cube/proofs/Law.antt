@@ -13,11 +13,8 @@ use Rattle.register.specs.declared.entry.Content.{Content}
 use Rattle.register.specs.declared.entry.Content.TheVariants as content
 use Rattle.register.specs.declared.entry.Correction as the_correction
 use Rattle.register.specs.declared.entry.Entry.{Entry}
-use Rattle.register.specs.declared.entry.Payment as the_payment
-use Rattle.register.specs.declared.entry.ReserveChange as the_reserve_change
-use Rattle.register.specs.declared.entry.Opening as the_opening
+use Rattle.register.specs.declared.entry.Terms.{Terms}
 use Rattle.register.specs.declared.entry.Void as the_void
-use Rattle.register.specs.declared.entry.Redating as the_redating
 use Rattle.register.specs.declared.kind.MovementKind.TheVariants as kind
 use Rattle.cube.specs.declared.terms.Direction.{Direction}
 use Rattle.cube.specs.declared.terms.Direction.TheVariants.{Added, TakenOff}
@@ -156,24 +153,24 @@ module _ (m : Meaning) (valued : Option Day) (k : ℕ) (es : List Entry) (back :
       ∙ ap (λ o. terms_shares m valued days Added (kind_in more (length es + 1)) (terms_at o)) (entry_new es (entry x))
       ∙ ap (λ q. terms_shares m valued days Added q (terms_of x)) (kind_new es (entry x) back named)
 
-  law_payment : (p : the_payment.Payment) → Follows es claim (content.Payment p) → Holds (content.Payment p)
+  law_payment : (p : Terms) → Follows es claim (content.Payment p) → Holds (content.Payment p)
   law_payment p (days, is) =
       let kept : (c : ℕ) → claim_days_in (es ++ (entry (content.Payment p) ∷ [])) c ≡ claim_days_in es c = λ c. days_new es (entry (content.Payment p)) c ∙ cond_same (eqb claim c) (claim_days_in es c) in
       quiet (content.Payment p) (λ n y at. kept y.claim) refl
       (ap (sum_at k) (movement_new (content.Payment p) days refl refl (kept claim ∙ is) (λ c no. absurd (let z : ◌≡◌ {A = ℕ} 0 1 = cc in omega arith)))
       ∙ ap (λ o. sum_at k (under_days m valued o (λ d. terms_shares m valued d Added (Some kind.Paid) (terms_of (content.Payment p))))) (sym is))
 
-  law_reserve : (r : the_reserve_change.ReserveChange) → Follows es claim (content.ReserveChange r) → Holds (content.ReserveChange r)
+  law_reserve : (r : Terms) → Follows es claim (content.ReserveChange r) → Holds (content.ReserveChange r)
   law_reserve r (days, is) =
       let kept : (c : ℕ) → claim_days_in (es ++ (entry (content.ReserveChange r) ∷ [])) c ≡ claim_days_in es c = λ c. days_new es (entry (content.ReserveChange r)) c ∙ cond_same (eqb claim c) (claim_days_in es c) in
       quiet (content.ReserveChange r) (λ n y at. kept y.claim) refl
       (ap (sum_at k) (movement_new (content.ReserveChange r) days refl refl (kept claim ∙ is) (λ c no. absurd (let z : ◌≡◌ {A = ℕ} 0 1 = cc in omega arith)))
       ∙ ap (λ o. sum_at k (under_days m valued o (λ d. terms_shares m valued d Added (Some kind.Reserved) (terms_of (content.ReserveChange r))))) (sym is))
 
-  law_opening : (o : the_opening.Opening) → Follows es claim (content.Opening o) → Holds (content.Opening o)
+  law_opening : (o : ClaimDays) → Follows es claim (content.Opening o) → Holds (content.Opening o)
   law_opening o fresh =
       let more : List Entry = es ++ (entry (content.Opening o) ∷ []) in
-      let here : claim_days_in more claim ≡ Some o.claim_days = days_new es (entry (content.Opening o)) claim ∙ cond-true _ _ _ (eq-eqb claim claim refl) in
+      let here : claim_days_in more claim ≡ Some o = days_new es (entry (content.Opening o)) claim ∙ cond-true _ _ _ (eq-eqb claim claim refl) in
       quiet (content.Opening o) (λ n y at. days_new es (entry (content.Opening o)) y.claim ∙ cond-false _ _ _ (ne_eqb claim y.claim (λ is. fresh n y at (sym is)))) refl
       (ap (λ q. sum_at k (under_days m valued q (λ d. standing_part m valued more d Added (length es + 1) (entry (content.Opening o))))) here)
 
@@ -278,30 +275,30 @@ module _ (m : Meaning) (valued : Option Day) (k : ℕ) (es : List Entry) (back :
       choose false xs = refl
 
   -- a redating: the claim's entries move from the old claim days to the new, and all else stays
-  law_redating : (d : the_redating.Redating) → Follows es claim (content.Redating d) → Holds (content.Redating d)
+  law_redating : (d : ClaimDays) → Follows es claim (content.Redating d) → Holds (content.Redating d)
   law_redating d (days, is) =
       let x : Content = content.Redating d in
       let longer : List Entry = es ++ (entry x ∷ []) in
-      let now : claim_days_in longer claim ≡ Some d.claim_days = days_new es (entry x) claim ∙ cond-true _ _ _ (eq-eqb claim claim refl) in
+      let now : claim_days_in longer claim ≡ Some d = days_new es (entry x) claim ∙ cond-true _ _ _ (eq-eqb claim claim refl) in
       let off : ℕ → Entry → ℤ = λ j z. cond (eqb z.claim claim) (sum_at k (standing_part m valued es days TakenOff j z)) (pos 0) in
-      let on : ℕ → Entry → ℤ = λ j z. cond (eqb z.claim claim) (sum_at k (standing_part m valued es d.claim_days Added j z)) (pos 0) in
+      let on : ℕ → Entry → ℤ = λ j z. cond (eqb z.claim claim) (sum_at k (standing_part m valued es d Added j z)) (pos 0) in
       let nothing : sum_at k (triangle_part m valued longer (length es + 1) (entry x)) ≡ pos 0 =
       ap (λ o. sum_at k (under_days m valued o (λ q. standing_part m valued longer q Added (length es + 1) (entry x)))) now
       ∙ ap (sum_at k) (cond-false _ _ _ (stands_new es (entry x))) in
       let bring : sum_at k (brings m valued es (entry x)) ≡ sum_over off 0 es +ℤ sum_over on 0 es =
-      ap (λ o. sum_at k (under_days m valued o (λ q. claim_part m valued es claim q TakenOff ++ claim_part m valued es claim d.claim_days Added))) is
-      ∙ sum_append k (claim_part m valued es claim days TakenOff) (claim_part m valued es claim d.claim_days Added)
-      ∙ ap (λ w. w +ℤ sum_at k (claim_part m valued es claim d.claim_days Added)) (claim_sum days TakenOff 0 es)
-      ∙ ap (λ w. sum_over off 0 es +ℤ w) (claim_sum d.claim_days Added 0 es) in
+      ap (λ o. sum_at k (under_days m valued o (λ q. claim_part m valued es claim q TakenOff ++ claim_part m valued es claim d Added))) is
+      ∙ sum_append k (claim_part m valued es claim days TakenOff) (claim_part m valued es claim d Added)
+      ∙ ap (λ w. w +ℤ sum_at k (claim_part m valued es claim d Added)) (claim_sum days TakenOff 0 es)
+      ∙ ap (λ w. sum_over off 0 es +ℤ w) (claim_sum d Added 0 es) in
       by_change m valued k es back (entry x) (entry x) (λ j z. off j z +ℤ on j z)
       (λ i h. redated d days is now i h)
       (omega (arith, ints, nothing, bring, over_add off on 0 es))
     where
-      redated : (d : the_redating.Redating) (days : ClaimDays) → claim_days_in es claim ≡ Some days → claim_days_in (es ++ (entry (content.Redating d) ∷ [])) claim ≡ Some d.claim_days → (i : ℕ) → i < length es
+      redated : (d : ClaimDays) (days : ClaimDays) → claim_days_in es claim ≡ Some days → claim_days_in (es ++ (entry (content.Redating d) ∷ [])) claim ≡ Some d → (i : ℕ) → i < length es
           → sum_at k (triangle_part m valued (es ++ (entry (content.Redating d) ∷ [])) (0 + i + 1) (get_or es i (entry (content.Redating d))))
           ≡ sum_at k (triangle_part m valued es (0 + i + 1) (get_or es i (entry (content.Redating d))))
           +ℤ (cond (eqb (get_or es i (entry (content.Redating d))).claim claim) (sum_at k (standing_part m valued es days TakenOff (0 + i + 1) (get_or es i (entry (content.Redating d))))) (pos 0)
-          +ℤ cond (eqb (get_or es i (entry (content.Redating d))).claim claim) (sum_at k (standing_part m valued es d.claim_days Added (0 + i + 1) (get_or es i (entry (content.Redating d))))) (pos 0))
+          +ℤ cond (eqb (get_or es i (entry (content.Redating d))).claim claim) (sum_at k (standing_part m valued es d Added (0 + i + 1) (get_or es i (entry (content.Redating d))))) (pos 0))
       redated d days is now i h =
           let x : Content = content.Redating d in
           let longer : List Entry = es ++ (entry x ∷ []) in
@@ -314,16 +311,16 @@ module _ (m : Meaning) (valued : Option Day) (k : ℕ) (es : List Entry) (back :
                 let same : z.claim ≡ claim = eqb-true z.claim claim ours in
                 let before : sum_at k (triangle_part m valued es n z) ≡ sum_at k (standing_part m valued es days Added n z) =
                 ap (λ o. sum_at k (under_days m valued o (λ q. standing_part m valued es q Added n z))) (ap (claim_days_in es) same ∙ is) in
-                let after : sum_at k (triangle_part m valued longer n z) ≡ sum_at k (standing_part m valued es d.claim_days Added n z) =
+                let after : sum_at k (triangle_part m valued longer n z) ≡ sum_at k (standing_part m valued es d Added n z) =
                 ap (λ o. sum_at k (under_days m valued o (λ q. standing_part m valued longer q Added n z))) (ap (claim_days_in longer) same ∙ now)
-                ∙ ap (sum_at k) (part_old m valued k es back (entry x) n z d.claim_days (omega arith) stands) in
+                ∙ ap (sum_at k) (part_old m valued k es back (entry x) n z d (omega arith) stands) in
                 let a = cond-true (eqb z.claim claim) (sum_at k (standing_part m valued es days TakenOff n z)) (pos 0) ours in
-                let b = cond-true (eqb z.claim claim) (sum_at k (standing_part m valued es d.claim_days Added n z)) (pos 0) ours in
+                let b = cond-true (eqb z.claim claim) (sum_at k (standing_part m valued es d Added n z)) (pos 0) ours in
                 omega (arith, ints, before, after, a, b, part_neg k m valued es days n z)
             | inr theirs ↦
                 let kept = same_old m valued k es back (entry x) n z (omega arith) stands (days_new es (entry x) z.claim ∙ cond-false _ _ _ (ne_eqb claim z.claim (λ same. eqb-false z.claim claim theirs (sym same)))) in
                 let a = cond-false (eqb z.claim claim) (sum_at k (standing_part m valued es days TakenOff n z)) (pos 0) theirs in
-                let b = cond-false (eqb z.claim claim) (sum_at k (standing_part m valued es d.claim_days Added n z)) (pos 0) theirs in
+                let b = cond-false (eqb z.claim claim) (sum_at k (standing_part m valued es d Added n z)) (pos 0) theirs in
                 omega (arith, ints, kept, a, b)
           ]
 

@@ -47,12 +47,12 @@ openings_more [] e = omega arith
 openings_more (x ∷ es) e = omega (arith, openings_more es e)
 
 follows_days : (es : List Entry) (claim : ℕ) (x : Content) → Follows es claim x → (after : ClaimDays) × (days_after (claim_days_in es claim) x ≡ Some after)
-follows_days es claim (content.Opening o) follows = (o.claim_days, refl)
+follows_days es claim (content.Opening o) follows = (o, refl)
 follows_days es claim (content.Payment p) (days, is) = (days, is)
 follows_days es claim (content.ReserveChange r) (days, is) = (days, is)
 follows_days es claim (content.Correction c) (days, y, is, at, of, stands) = (days, is)
 follows_days es claim (content.Void v) (days, y, is, at, of, stands) = (days, is)
-follows_days es claim (content.Redating d) (days, is) = (d.claim_days, refl)
+follows_days es claim (content.Redating d) (days, is) = (d, refl)
 
 follows_names : (es : List Entry) (claim : ℕ) (x : Content) → Follows es claim x → (k : the_correction.Correction) → x ≡ content.Correction k → k.names ≤ length es
 follows_names es claim (content.Opening o) follows k is = absurd (let z : ◌≡◌ {A = ℕ} 0 1 = cc in omega arith)

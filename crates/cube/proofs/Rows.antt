@@ -84,14 +84,14 @@ module _ (l : Ledger) (reached : Reached l.state.book.entries l.state.draft) whe
 
   pub outcome : (call : Call) → Books l call ⊎ Leaves l call
   outcome (Call.Open sheet booked days) = books_on (Call.Open sheet booked days) (open_entry s sheet booked days) refl refl (open_joins s reached sheet booked days)
-  outcome (Call.Move sheet kind booked claim effective amount) =
-      books_on (Call.Move sheet kind booked claim effective amount) (move_entry s sheet kind booked claim effective amount) refl refl
-      (move_joins s reached sheet booked kind claim effective amount)
+  outcome (Call.Move sheet kind booked claim terms) =
+      books_on (Call.Move sheet kind booked claim terms) (move_entry s sheet kind booked claim terms) refl refl
+      (move_joins s reached sheet booked kind claim terms)
   outcome (Call.Void sheet booked entry) = books_on (Call.Void sheet booked entry) (void_entry s sheet booked entry) refl refl (void_joins s reached sheet booked entry)
   outcome (Call.Redate sheet booked claim days) = books_on (Call.Redate sheet booked claim days) (redate_entry s sheet booked claim days) refl refl (redate_joins s reached sheet booked claim days)
   outcome (Call.Draft entry) = drafts (Call.Draft entry) (draft_ticket s entry) refl refl (draft_stands s entry)
-  outcome (Call.Post sheet ticket booked effective amount) =
-      posts (Call.Post sheet ticket booked effective amount) (post_entry s sheet ticket booked effective amount) refl refl (post_joins s reached sheet booked ticket effective amount)
+  outcome (Call.Post sheet ticket booked terms) =
+      posts (Call.Post sheet ticket booked terms) (post_entry s sheet ticket booked terms) refl refl (post_joins s reached sheet booked ticket terms)
   outcome (Call.Drop ticket) = drops (Call.Drop ticket) (drop_answer s ticket) refl refl
   outcome (Call.Query answer known valued) = inr (record { draft = s.draft; is = refl; stands = reached.drafted; to = refl })
 

@@ -9,7 +9,7 @@ use Rattle.register.specs.declared.entry.Entry.{Entry}
 use Rattle.register.specs.declared.kind.MovementKind.{MovementKind}
 use Rattle.register.specs.declared.kind.MovementKind.TheVariants as kind
 use Rattle.cube.specs.declared.terms.Direction.TheVariants.{Added, TakenOff}
-use Rattle.cube.specs.declared.terms.Terms.{Terms}
+use Rattle.register.specs.declared.entry.Terms.{Terms}
 use Rattle.cube.specs.Brings.{count_under, in_time, movement_at, standing_part, terms_shares}
 use Rattle.cube.specs.Sheets.{Share, movement_shares}
 use Rattle.cube.specs.Triangles.{sum_at, triangle_from, triangle_part}

@@ -12,7 +12,7 @@ use Rattle.register.specs.declared.kind.MovementKind.{MovementKind}
 use Rattle.register.specs.declared.kind.MovementKind.TheVariants as kind
 use Rattle.cube.specs.declared.terms.Direction.{Direction}
 use Rattle.cube.specs.declared.terms.Direction.TheVariants.{Added, TakenOff}
-use Rattle.cube.specs.declared.terms.Terms.{Terms}
+use Rattle.register.specs.declared.entry.Terms.{Terms}
 use Rattle.cube.specs.Sheets.{Share, movement_shares, claim_shares}
 
 -- on or before the value day; without one every day is
@@ -32,9 +32,9 @@ directed TakenOff amount = neg_ℤ amount
 -- the effective day and the amount of a movement
 abbrev pub terms_of : Content → Option Terms
 terms_of (content.Opening o) = None
-terms_of (content.Payment p) = Some (record { effective = p.effective; amount = p.amount })
-terms_of (content.ReserveChange r) = Some (record { effective = r.effective; amount = r.amount })
-terms_of (content.Correction k) = Some (record { effective = k.effective; amount = k.amount })
+terms_of (content.Payment p) = Some p
+terms_of (content.ReserveChange r) = Some r
+terms_of (content.Correction k) = Some k.terms
 terms_of (content.Void v) = None
 terms_of (content.Redating d) = None
 
@@ -71,7 +71,7 @@ module _ (m : Meaning) (valued : Option Day) where
 
   -- a correction takes the movement that it names off, and adds its own terms as one of the same kind
   abbrev pub correction_shares : List Entry → ClaimDays → Correction → List Share
-  correction_shares es days k = movement_at es days TakenOff k.names ++ terms_shares days Added (kind_in es k.names) (Some (record { effective = k.effective; amount = k.amount }))
+  correction_shares es days k = movement_at es days TakenOff k.names ++ terms_shares days Added (kind_in es k.names) (Some k.terms)
 
   -- a redating takes the claim's count and standing movements off under the old claim days and adds them under the new
   abbrev pub redating_shares : List Entry → (claim : ℕ) → (old new : ClaimDays) → List Share
@@ -85,12 +85,12 @@ module _ (m : Meaning) (valued : Option Day) where
   -- An opening brings its claim's count, a payment or a reserve change its amount, and a void takes the movement that it names
   -- off again.
   abbrev pub brought_by : List Entry → (claim : ℕ) → Option ClaimDays → Content → List Share
-  brought_by es claim old (content.Opening o) = count_under o.claim_days Added
-  brought_by es claim old (content.Payment p) = under_days old (λ days. terms_shares days Added (Some kind.Paid) (Some (record { effective = p.effective; amount = p.amount })))
-  brought_by es claim old (content.ReserveChange r) = under_days old (λ days. terms_shares days Added (Some kind.Reserved) (Some (record { effective = r.effective; amount = r.amount })))
+  brought_by es claim old (content.Opening o) = count_under o Added
+  brought_by es claim old (content.Payment p) = under_days old (λ days. terms_shares days Added (Some kind.Paid) (Some p))
+  brought_by es claim old (content.ReserveChange r) = under_days old (λ days. terms_shares days Added (Some kind.Reserved) (Some r))
   brought_by es claim old (content.Correction k) = under_days old (λ days. correction_shares es days k)
   brought_by es claim old (content.Void v) = under_days old (λ days. movement_at es days TakenOff v.names)
-  brought_by es claim old (content.Redating d) = under_days old (λ days. redating_shares es claim days d.claim_days)
+  brought_by es claim old (content.Redating d) = under_days old (λ days. redating_shares es claim days d)
 
   -- what the entry brings after the list
   abbrev pub brings : List Entry → Entry → List Share

@@ -2,7 +2,6 @@
 use Rattle.std.specs.Prelude.{ℕ, ◌+◌, Bool, true, false, cond, not, ◌&&◌, ◌||◌, List, [], ◌∷◌, ◌++◌, length, replicate, ℤ, pos, is_some, Some, None, Ok, Err, Option, Result, ◌==◌, nat_le, nat_lt}
 use Rattle.values.specs.Cohorts as cohorts
 use Rattle.values.specs.Making.{and_then, in_order}
-use Rattle.values.specs.declared.amount.Amount.{Amount}
 use Rattle.values.specs.declared.claim_days.ClaimDays.{ClaimDays}
 use Rattle.values.specs.declared.day.Day.{Day}
 use Rattle.register.specs.Entries.{claim_days_in, entry_in, is_movement, openings_in, stands_in}
@@ -14,7 +13,7 @@ use Rattle.register.specs.declared.kind.MovementKind.{MovementKind}
 use Rattle.register.specs.declared.kind.MovementKind.TheVariants as kind
 use Rattle.cube.specs.declared.fault.CallFault.{CallFault}
 use Rattle.cube.specs.declared.fault.CallFault.TheVariants.{SheetLength, RegisterNotEmpty, NoRoom, BookedEarlier, RegisterFull, ClaimsUsedUp, DaysOutOfOrder, AfterBooking, NoSuchClaim, BeforeReport, NoSuchEntry, NotAMovement, NotStanding, UnderDraft, NotTheDraft, MovementBeforeReport}
-use Rattle.cube.specs.declared.terms.Terms.{Terms}
+use Rattle.register.specs.declared.entry.Terms.{Terms}
 use Rattle.cube.specs.declared.ticket.Opened.{Opened}
 use Rattle.cube.specs.declared.ticket.Ticket.{Ticket}
 use Rattle.cube.specs.Brings.{brings, terms_of}
@@ -71,9 +70,9 @@ standing_movement es n =
     and_then (refused_if (not (is_movement e)) NotAMovement) (λ _.
     and_then (refused_if (not (stands_in es n)) NotStanding) (λ _. Ok e)))
 
-abbrev pub movement_content : MovementKind → Day → Amount → Content
-movement_content kind.Paid effective amount = content.Payment (record { effective = effective; amount = amount })
-movement_content kind.Reserved effective amount = content.ReserveChange (record { effective = effective; amount = amount })
+abbrev pub movement_content : MovementKind → Terms → Content
+movement_content kind.Paid terms = content.Payment terms
+movement_content kind.Reserved terms = content.ReserveChange terms
 
 -- Open: the claim numbered next
 abbrev pub open_entry : State → (sheet : ℕ) → Day → ClaimDays → Result Entry CallFault
@@ -81,15 +80,15 @@ open_entry s sheet booked days =
     and_then (booking_checked s sheet booked) (λ _.
     and_then (refused_if (nat_le s.book.bound (openings_in s.book.entries)) ClaimsUsedUp) (λ _.
     and_then (days_checked days booked) (λ _.
-    Ok (record { booked = booked; claim = openings_in s.book.entries + 1; content = content.Opening (record { claim_days = days }) }))))
+    Ok (record { booked = booked; claim = openings_in s.book.entries + 1; content = content.Opening days }))))
 
 -- Move: a payment or a reserve change
-abbrev pub move_entry : State → (sheet : ℕ) → MovementKind → Day → (claim : ℕ) → Day → Amount → Result Entry CallFault
-move_entry s sheet k booked claim effective amount =
+abbrev pub move_entry : State → (sheet : ℕ) → MovementKind → Day → (claim : ℕ) → Terms → Result Entry CallFault
+move_entry s sheet k booked claim terms =
     and_then (booking_checked s sheet booked) (λ _.
     and_then (or_fault (claim_days_in s.book.entries claim) NoSuchClaim) (λ days.
-    and_then (effective_checked days effective booked) (λ _.
-    Ok (record { booked = booked; claim = claim; content = movement_content k effective amount }))))
+    and_then (effective_checked days terms.effective booked) (λ _.
+    Ok (record { booked = booked; claim = claim; content = movement_content k terms }))))
 
 -- Void: of a standing movement that is under no draft
 abbrev pub void_entry : State → (sheet : ℕ) → Day → (n : ℕ) → Result Entry CallFault
@@ -120,7 +119,7 @@ redate_entry s sheet booked claim days =
     and_then (or_fault (claim_days_in s.book.entries claim) NoSuchClaim) (λ _.
     and_then (days_checked days booked) (λ _.
     and_then (refused_if (moved_before_from s.book.entries claim days.report 0 s.book.entries) MovementBeforeReport) (λ _.
-    Ok (record { booked = booked; claim = claim; content = content.Redating (record { claim_days = days }) })))))
+    Ok (record { booked = booked; claim = claim; content = content.Redating days })))))
 
 -- Draft: a ticket with the mark and the entry's number
 abbrev pub draft_ticket : State → (n : ℕ) → Result Ticket CallFault
@@ -133,14 +132,14 @@ abbrev pub is_open_draft : State → Ticket → Bool
 is_open_draft s ticket = ticket.mark == s.mark && on_draft s.draft ticket.entry
 
 -- Post: the correction of the entry under the draft
-abbrev pub post_entry : State → (sheet : ℕ) → Ticket → Day → Day → Amount → Result Entry CallFault
-post_entry s sheet ticket booked effective amount =
+abbrev pub post_entry : State → (sheet : ℕ) → Ticket → Day → Terms → Result Entry CallFault
+post_entry s sheet ticket booked terms =
     and_then (booking_checked s sheet booked) (λ _.
     and_then (refused_if (not (is_open_draft s ticket)) NotTheDraft) (λ _.
     and_then (or_fault (entry_in s.book.entries ticket.entry) NotTheDraft) (λ e.
     and_then (or_fault (claim_days_in s.book.entries e.claim) NoSuchClaim) (λ days.
-    and_then (effective_checked days effective booked) (λ _.
-    Ok (record { booked = booked; claim = e.claim; content = content.Correction (record { names = ticket.entry; effective = effective; amount = amount }) }))))))
+    and_then (effective_checked days terms.effective booked) (λ _.
+    Ok (record { booked = booked; claim = e.claim; content = content.Correction (record { names = ticket.entry; terms = terms }) }))))))
 
 -- Drop: closes the draft
 abbrev pub drop_answer : State → Ticket → Result (Unit {0}) CallFault

@@ -46,11 +46,11 @@ told_of tell (Err fault) = Told.Refused fault
 -- the answer of the model to a call
 abbrev pub answer_of : State → Call → Told
 answer_of s (Call.Open sheet booked days) = told_of (λ o. Told.Opened o.entry o.claim) (open_told s (open_entry s sheet booked days))
-answer_of s (Call.Move sheet kind booked claim effective amount) = told_of Told.Booked (number_told s (move_entry s sheet kind booked claim effective amount))
+answer_of s (Call.Move sheet kind booked claim terms) = told_of Told.Booked (number_told s (move_entry s sheet kind booked claim terms))
 answer_of s (Call.Void sheet booked entry) = told_of Told.Booked (number_told s (void_entry s sheet booked entry))
 answer_of s (Call.Redate sheet booked claim days) = told_of Told.Booked (number_told s (redate_entry s sheet booked claim days))
 answer_of s (Call.Draft entry) = told_of (λ _. Told.Drafted) (draft_ticket s entry)
-answer_of s (Call.Post sheet ticket booked effective amount) = told_of Told.Booked (number_told s (post_entry s sheet ticket booked effective amount))
+answer_of s (Call.Post sheet ticket booked terms) = told_of Told.Booked (number_told s (post_entry s sheet ticket booked terms))
 answer_of s (Call.Drop ticket) = told_of (λ _. Told.Dropped) (drop_answer s ticket)
 answer_of s (Call.Query answer known valued) = told_of (λ _. Told.Drawn (queried s known valued)) (query_checked s answer)
 
@@ -62,11 +62,11 @@ pub record Desk : Type 0 where
 -- the call that a request makes; none if it names a ticket that the drawer does not have
 abbrev pub call_of : Desk → Request → Option Call
 call_of d (request.Open booked days) = Some (Call.Open (length d.ledger.sheet) booked days)
-call_of d (request.Movement kind booked claim effective amount) = Some (Call.Move (length d.ledger.sheet) kind booked claim effective amount)
+call_of d (request.Movement kind booked claim terms) = Some (Call.Move (length d.ledger.sheet) kind booked claim terms)
 call_of d (request.Void booked number) = Some (Call.Void (length d.ledger.sheet) booked number)
 call_of d (request.Redate booked claim days) = Some (Call.Redate (length d.ledger.sheet) booked claim days)
 call_of d (request.Draft number) = Some (Call.Draft number)
-call_of d (request.Post place booked effective amount) = option_map (λ ticket. Call.Post (length d.ledger.sheet) ticket booked effective amount) (slice_get d.drawer place)
+call_of d (request.Post place booked terms) = option_map (λ ticket. Call.Post (length d.ledger.sheet) ticket booked terms) (slice_get d.drawer place)
 call_of d (request.Drop place) = option_map Call.Drop (slice_get d.drawer place)
 call_of d (request.Query known valued) = Some (Call.Query (sheet_length d.ledger.state.cohort) known valued)
 
@@ -78,12 +78,12 @@ spent_by drawer place (Some ticket) verdict = cond (is_ok (verdict ticket)) (rem
 -- the drawer after a request: a draft puts its ticket at the end, a drop takes its own out
 abbrev pub drawer_next : Desk → Request → List Ticket
 drawer_next d (request.Open booked days) = d.drawer
-drawer_next d (request.Movement kind booked claim effective amount) = d.drawer
+drawer_next d (request.Movement kind booked claim terms) = d.drawer
 drawer_next d (request.Void booked number) = d.drawer
 drawer_next d (request.Redate booked claim days) = d.drawer
 drawer_next d (request.Draft number) = d.drawer ++ option_to_list (result_ok (draft_ticket d.ledger.state number))
-drawer_next d (request.Post place booked effective amount) =
-    spent_by d.drawer place (slice_get d.drawer place) (λ ticket. post_entry d.ledger.state (length d.ledger.sheet) ticket booked effective amount)
+drawer_next d (request.Post place booked terms) =
+    spent_by d.drawer place (slice_get d.drawer place) (λ ticket. post_entry d.ledger.state (length d.ledger.sheet) ticket booked terms)
 drawer_next d (request.Drop place) = remove d.drawer place
 drawer_next d (request.Query known valued) = d.drawer
 

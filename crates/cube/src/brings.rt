@@ -7,8 +7,8 @@ ghost use Rattle.cube.specs.Sheets.{added_all, sheet_length};
 
 use crate::reading::{claim_days_in_force, kind_of, stands};
 use crate::sheet::{add_claim, add_movement};
-use crate::terms::{Direction, Terms, in_time, terms_of};
-use register::entry::{Content, Correction, Entry, Opening};
+use crate::terms::{Direction, in_time, terms_of};
+use register::entry::{Content, Correction, Entry, Terms};
 use register::kind::MovementKind;
 use register::numbered::NumberedEntry;
 use register::register::Register;
@@ -138,11 +138,7 @@ fn add_correction<R: Register, C: Cohort>(
     };
     add_movement_at(register, cohort, sheet, off, correction.names);
     let kind = kind_of(register, correction.names);
-    let terms = Terms {
-        effective: correction.effective,
-        amount: correction.amount,
-    };
-    add_terms(cohort, sheet, on, kind, Some(terms));
+    add_terms(cohort, sheet, on, kind, Some(correction.terms));
 }
 
 // Adds what a redating brings: the claim's part off under the old claim days, on under the new.
@@ -171,11 +167,10 @@ fn add_redating<R: Register, C: Cohort>(
 }
 
 // Adds the count of a claim that is opened.
-fn add_opening<C: Cohort>(cohort: &C, sheet: &mut [i64], valued: Option<Day>, opening: Opening)
+fn add_opening<C: Cohort>(cohort: &C, sheet: &mut [i64], valued: Option<Day>, claim_days: ClaimDays)
     requires { length sheet.old ≡ sheet_length (C.Cohort.meaning cohort.now) }
-    ensures { sheet.new ≡ added_all sheet.old (count_under (C.Cohort.meaning cohort.now) valued opening.claim_days Added) }
+    ensures { sheet.new ≡ added_all sheet.old (count_under (C.Cohort.meaning cohort.now) valued claim_days Added) }
 {
-    let claim_days = opening.claim_days;
     let direction = Direction::Added;
     add_count(
         cohort,
@@ -193,8 +188,8 @@ fn add_without_days<C: Cohort>(cohort: &C, sheet: &mut [i64], valued: Option<Day
     requires { length sheet.old ≡ sheet_length (C.Cohort.meaning cohort.now) }
     ensures { (es : List Entry) (claim : ℕ) → sheet.new ≡ added_all sheet.old (brought_by (C.Cohort.meaning cohort.now) valued es claim None content) }
 {
-    if let Content::Opening(opening) = content {
-        add_opening(cohort, sheet, valued, opening);
+    if let Content::Opening(claim_days) = content {
+        add_opening(cohort, sheet, valued, claim_days);
     }
 }
 
@@ -212,7 +207,7 @@ fn add_under_days<R: Register, C: Cohort>(
     ensures { sheet.new ≡ added_all sheet.old (brought_by (C.Cohort.meaning cohort.now) placing.valued (R.Register.meaning register.now).entries claim (Some placing.claim_days) content) }
 {
     match content {
-        Content::Opening(opening) => add_opening(cohort, sheet, placing.valued, opening),
+        Content::Opening(opened) => add_opening(cohort, sheet, placing.valued, opened),
         Content::Payment(_) => {
             add_terms(
                 cohort,
@@ -241,8 +236,8 @@ fn add_under_days<R: Register, C: Cohort>(
             };
             add_movement_at(register, cohort, sheet, off, void.names);
         }
-        Content::Redating(redating) => {
-            add_redating(register, cohort, sheet, placing, claim, redating.claim_days);
+        Content::Redating(redated) => {
+            add_redating(register, cohort, sheet, placing, claim, redated);
         }
     }
 }

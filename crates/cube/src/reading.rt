@@ -12,8 +12,8 @@ pub(crate) fn days_after(before: Option<ClaimDays>, entry: Entry) -> Option<Clai
     ensures { result ≡ days_after before entry.content }
 {
     match entry.content {
-        Content::Opening(opening) => Some(opening.claim_days),
-        Content::Redating(redating) => Some(redating.claim_days),
+        Content::Opening(claim_days) => Some(claim_days),
+        Content::Redating(claim_days) => Some(claim_days),
         _ => before,
     }
 }

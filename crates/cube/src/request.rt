@@ -1,8 +1,8 @@
 // Rows of calls as data: what is asked, and what is answered.
 use crate::fault::CallFault;
 use crate::ticket::Opened;
+use register::entry::Terms;
 use register::kind::MovementKind;
-use values::amount::Amount;
 use values::claim_days::ClaimDays;
 use values::day::Day;
 
@@ -17,8 +17,7 @@ pub enum Request {
         kind: MovementKind,
         booked: Day,
         claim: u32,
-        effective: Day,
-        amount: Amount,
+        terms: Terms,
     },
     Void {
         booked: Day,
@@ -35,8 +34,7 @@ pub enum Request {
     Post {
         place: usize,
         booked: Day,
-        effective: Day,
-        amount: Amount,
+        terms: Terms,
     },
     Drop {
         place: usize,

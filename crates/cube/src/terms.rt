@@ -2,16 +2,9 @@
 ghost use Rattle.std.specs.Prelude.{◌≡◌, pos};
 ghost use Rattle.cube.specs.Brings.{directed, in_time, terms_of};
 
-use register::entry::Content;
+use register::entry::{Content, Terms};
 use values::amount::Amount;
 use values::day::Day;
-
-// The effective day and the amount of a movement.
-#[derive(Clone, Copy)]
-pub struct Terms {
-    pub effective: Day,
-    pub amount: Amount,
-}
 
 // Whether something is added to the sheet or taken off it.
 #[derive(Clone, Copy)]
@@ -57,18 +50,8 @@ pub fn terms_of(content: Content) -> Option<Terms>
     ensures { result ≡ terms_of content }
 {
     match content {
-        Content::Payment(payment) => Some(Terms {
-            effective: payment.effective,
-            amount: payment.amount,
-        }),
-        Content::ReserveChange(change) => Some(Terms {
-            effective: change.effective,
-            amount: change.amount,
-        }),
-        Content::Correction(correction) => Some(Terms {
-            effective: correction.effective,
-            amount: correction.amount,
-        }),
+        Content::Payment(terms) | Content::ReserveChange(terms) => Some(terms),
+        Content::Correction(correction) => Some(correction.terms),
         _ => None,
     }
 }

@@ -102,12 +102,12 @@ abbrev pub kind_in : List Entry → ℕ → Option MovementKind
 kind_in es n = kind_within es n n
 
 abbrev pub days_after : Option ClaimDays → Content → Option ClaimDays
-days_after before (Opening o) = Some o.claim_days
+days_after before (Opening o) = Some o
 days_after before (Payment p) = before
 days_after before (ReserveChange r) = before
 days_after before (Correction k) = before
 days_after before (Void v) = before
-days_after before (Redating d) = Some d.claim_days
+days_after before (Redating d) = Some d
 
 abbrev pub days_from : Option ClaimDays → List Entry → ℕ → Option ClaimDays
 days_from before [] claim = before

@@ -5,55 +5,41 @@ use values::day::Day;
 
 mod methods;
 
-// O: a claim is opened with its three claim days.
+// The terms of a movement: its effective day and its amount.
 #[derive(Clone, Copy, PartialEq, Debug)]
-pub struct Opening {
-    pub claim_days: ClaimDays,
-}
-
-// P: money is paid, with effect on a day.
-#[derive(Clone, Copy, PartialEq, Debug)]
-pub struct Payment {
+pub struct Terms {
     pub effective: Day,
     pub amount: Amount,
 }
 
-// R: the case reserve changes, with effect on a day.
-#[derive(Clone, Copy, PartialEq, Debug)]
-pub struct ReserveChange {
-    pub effective: Day,
-    pub amount: Amount,
-}
-
-// K: an earlier movement gets a new effective day and amount.
+// An earlier movement gets new terms.
 #[derive(Clone, Copy, PartialEq, Debug)]
 pub struct Correction {
     pub names: u32,
-    pub effective: Day,
-    pub amount: Amount,
+    pub terms: Terms,
 }
 
-// V: an earlier movement is taken back.
+// An earlier movement is taken back.
 #[derive(Clone, Copy, PartialEq, Debug)]
 pub struct Void {
     pub names: u32,
 }
 
-// D: a claim gets three new claim days.
-#[derive(Clone, Copy, PartialEq, Debug)]
-pub struct Redating {
-    pub claim_days: ClaimDays,
-}
-
-// What an entry says, by its letter.
+// What an entry says.
 #[derive(Clone, Copy, PartialEq, Debug)]
 pub enum Content {
-    Opening(Opening),
-    Payment(Payment),
-    ReserveChange(ReserveChange),
+    // O: a claim is opened with its three claim days
+    Opening(ClaimDays),
+    // P: money is paid
+    Payment(Terms),
+    // R: the case reserve changes
+    ReserveChange(Terms),
+    // K: an earlier movement is put right
     Correction(Correction),
+    // V: an earlier movement is taken back
     Void(Void),
-    Redating(Redating),
+    // D: a claim gets three new claim days
+    Redating(ClaimDays),
 }
 
 // One entry: the day on which it was booked, its claim and what it says.

@@ -9,23 +9,20 @@ use super::checks::{check_days, check_effective, moved_before, refused_if, stand
 use crate::fault::CallFault;
 use crate::reading::claim_days_in_force;
 use crate::ticket::{Opened, Ticket};
-use register::entry::{
-    Content, Correction, Entry, Opening, Payment, Redating, ReserveChange, Void,
-};
+use register::entry::{Content, Entry, Terms, Void};
 use register::kind::MovementKind;
 use register::register::Register;
-use values::amount::Amount;
 use values::claim_days::ClaimDays;
 use values::cohort::Cohort;
 use values::day::Day;
 
 // What a movement says, by its kind.
-fn movement_content(kind: MovementKind, effective: Day, amount: Amount) -> Content
-    ensures { result ≡ movement_content kind effective amount }
+fn movement_content(kind: MovementKind, terms: Terms) -> Content
+    ensures { result ≡ movement_content kind terms }
 {
     match kind {
-        MovementKind::Paid => Content::Payment(Payment { effective, amount }),
-        MovementKind::Reserved => Content::ReserveChange(ReserveChange { effective, amount }),
+        MovementKind::Paid => Content::Payment(terms),
+        MovementKind::Reserved => Content::ReserveChange(terms),
     }
 }
 
@@ -50,7 +47,7 @@ impl<R: Register, C: Cohort> Cube<R, C> {
         Ok(Entry {
             booked,
             claim: opened + 1,
-            content: Content::Opening(Opening { claim_days }),
+            content: Content::Opening(claim_days),
         })
     }
 
@@ -80,18 +77,17 @@ impl<R: Register, C: Cohort> Cube<R, C> {
         kind: MovementKind,
         booked: Day,
         claim: u32,
-        effective: Day,
-        amount: Amount,
+        terms: Terms,
     ) -> Result<Entry, CallFault>
-        ensures verdict { result ≡ move_entry (state_of R.Register.meaning C.Cohort.meaning self.now) sheet kind booked claim effective amount }
+        ensures verdict { result ≡ move_entry (state_of R.Register.meaning C.Cohort.meaning self.now) sheet kind booked claim terms }
         ensures accepted { IfOk result (λ e. Bookable (state_of R.Register.meaning C.Cohort.meaning self.now) sheet e) }
     {
         self.check_booking(sheet, booked)?;
         let Some(claim_days) = claim_days_in_force(&self.register, claim) else {
             return Err(CallFault::NoSuchClaim);
         };
-        check_effective(claim_days, effective, booked)?;
-        let content = movement_content(kind, effective, amount);
+        check_effective(claim_days, terms.effective, booked)?;
+        let content = movement_content(kind, terms);
         Ok(Entry {
             booked,
             claim,
@@ -106,14 +102,13 @@ impl<R: Register, C: Cohort> Cube<R, C> {
         kind: MovementKind,
         booked: Day,
         claim: u32,
-        effective: Day,
-        amount: Amount,
+        terms: Terms,
     ) -> Result<u32, CallFault>
-        ensures answer { result ≡ number_told (state_of R.Register.meaning C.Cohort.meaning self.old) (move_entry (state_of R.Register.meaning C.Cohort.meaning self.old) (length sheet.old) kind booked claim effective amount) }
-        ensures state { state_of R.Register.meaning C.Cohort.meaning self.new ≡ state_after (state_of R.Register.meaning C.Cohort.meaning self.old) (move_entry (state_of R.Register.meaning C.Cohort.meaning self.old) (length sheet.old) kind booked claim effective amount) }
-        ensures sheet { sheet.new ≡ sheet_after (state_of R.Register.meaning C.Cohort.meaning self.old) (move_entry (state_of R.Register.meaning C.Cohort.meaning self.old) (length sheet.old) kind booked claim effective amount) sheet.old }
+        ensures answer { result ≡ number_told (state_of R.Register.meaning C.Cohort.meaning self.old) (move_entry (state_of R.Register.meaning C.Cohort.meaning self.old) (length sheet.old) kind booked claim terms) }
+        ensures state { state_of R.Register.meaning C.Cohort.meaning self.new ≡ state_after (state_of R.Register.meaning C.Cohort.meaning self.old) (move_entry (state_of R.Register.meaning C.Cohort.meaning self.old) (length sheet.old) kind booked claim terms) }
+        ensures sheet { sheet.new ≡ sheet_after (state_of R.Register.meaning C.Cohort.meaning self.old) (move_entry (state_of R.Register.meaning C.Cohort.meaning self.old) (length sheet.old) kind booked claim terms) sheet.old }
     {
-        let entry = self.check_movement(sheet.len(), kind, booked, claim, effective, amount)?;
+        let entry = self.check_movement(sheet.len(), kind, booked, claim, terms)?;
         Ok(self.book(sheet, entry))
     }
 
@@ -161,7 +156,7 @@ impl<R: Register, C: Cohort> Cube<R, C> {
         check_days(claim_days, booked)?;
         let moved = moved_before(&self.register, claim, claim_days.report);
         refused_if(moved, CallFault::MovementBeforeReport)?;
-        let content = Content::Redating(Redating { claim_days });
+        let content = Content::Redating(claim_days);
         Ok(Entry {
             booked,
             claim,

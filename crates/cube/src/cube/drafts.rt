@@ -11,9 +11,8 @@ use crate::fault::CallFault;
 use crate::reading::claim_days_in_force;
 use crate::sheet::sheet_length;
 use crate::ticket::Ticket;
-use register::entry::{Content, Correction, Entry};
+use register::entry::{Content, Correction, Entry, Terms};
 use register::register::Register;
-use values::amount::Amount;
 use values::cohort::Cohort;
 use values::day::Day;
 
@@ -90,10 +89,9 @@ impl<R: Register, C: Cohort> Cube<R, C> {
         sheet: usize,
         ticket: &Ticket,
         booked: Day,
-        effective: Day,
-        amount: Amount,
+        terms: Terms,
     ) -> Result<Entry, CallFault>
-        ensures verdict { result ≡ post_entry (state_of R.Register.meaning C.Cohort.meaning self.now) sheet ticket.now booked effective amount }
+        ensures verdict { result ≡ post_entry (state_of R.Register.meaning C.Cohort.meaning self.now) sheet ticket.now booked terms }
         ensures accepted { IfOk result (λ e. Bookable (state_of R.Register.meaning C.Cohort.meaning self.now) sheet e) }
     {
         self.check_booking(sheet, booked)?;
@@ -104,13 +102,9 @@ impl<R: Register, C: Cohort> Cube<R, C> {
         let Some(claim_days) = claim_days_in_force(&self.register, named.claim) else {
             return Err(CallFault::NoSuchClaim);
         };
-        check_effective(claim_days, effective, booked)?;
+        check_effective(claim_days, terms.effective, booked)?;
         let names = ticket.entry;
-        let content = Content::Correction(Correction {
-            names,
-            effective,
-            amount,
-        });
+        let content = Content::Correction(Correction { names, terms });
         Ok(Entry {
             booked,
             claim: named.claim,
@@ -124,14 +118,13 @@ impl<R: Register, C: Cohort> Cube<R, C> {
         sheet: &mut [i64],
         ticket: Ticket,
         booked: Day,
-        effective: Day,
-        amount: Amount,
+        terms: Terms,
     ) -> Result<u32, (Ticket, CallFault)>
-        ensures answer { result ≡ post_told (state_of R.Register.meaning C.Cohort.meaning self.old) ticket (post_entry (state_of R.Register.meaning C.Cohort.meaning self.old) (length sheet.old) ticket booked effective amount) }
-        ensures state { state_of R.Register.meaning C.Cohort.meaning self.new ≡ after_post (state_of R.Register.meaning C.Cohort.meaning self.old) (post_entry (state_of R.Register.meaning C.Cohort.meaning self.old) (length sheet.old) ticket booked effective amount) }
-        ensures sheet { sheet.new ≡ sheet_after (state_of R.Register.meaning C.Cohort.meaning self.old) (post_entry (state_of R.Register.meaning C.Cohort.meaning self.old) (length sheet.old) ticket booked effective amount) sheet.old }
+        ensures answer { result ≡ post_told (state_of R.Register.meaning C.Cohort.meaning self.old) ticket (post_entry (state_of R.Register.meaning C.Cohort.meaning self.old) (length sheet.old) ticket booked terms) }
+        ensures state { state_of R.Register.meaning C.Cohort.meaning self.new ≡ after_post (state_of R.Register.meaning C.Cohort.meaning self.old) (post_entry (state_of R.Register.meaning C.Cohort.meaning self.old) (length sheet.old) ticket booked terms) }
+        ensures sheet { sheet.new ≡ sheet_after (state_of R.Register.meaning C.Cohort.meaning self.old) (post_entry (state_of R.Register.meaning C.Cohort.meaning self.old) (length sheet.old) ticket booked terms) sheet.old }
     {
-        match self.check_post(sheet.len(), &ticket, booked, effective, amount) {
+        match self.check_post(sheet.len(), &ticket, booked, terms) {
             Ok(entry) => {
                 let Ticket { mark: _, entry: _ } = ticket;
                 let number = self.book(sheet, entry);

@@ -10,9 +10,9 @@ use crate::fault::{CallFault, QueryFault};
 use crate::request::{Answer, Request, Stopped};
 use crate::sheet::sheet_length;
 use crate::ticket::{Opened, Ticket};
+use register::entry::Terms;
 use register::register::Register;
 use std::alloc::{AllocError, Global};
-use values::amount::Amount;
 use values::cohort::Cohort;
 use values::day::Day;
 
@@ -72,16 +72,15 @@ impl<R: Register, C: Cohort> Cube<R, C> {
         drawer: &mut Vec<Ticket>,
         place: usize,
         booked: Day,
-        effective: Day,
-        amount: Amount,
+        terms: Terms,
     ) -> Answer
-        ensures { Served (desk_of R.Register.meaning C.Cohort.meaning self.old sheet.old drawer.old.items) (Request.Post place booked effective amount) (Ok result) (desk_of R.Register.meaning C.Cohort.meaning self.new sheet.new drawer.new.items) }
+        ensures { Served (desk_of R.Register.meaning C.Cohort.meaning self.old sheet.old drawer.old.items) (Request.Post place booked terms) (Ok result) (desk_of R.Register.meaning C.Cohort.meaning self.new sheet.new drawer.new.items) }
     {
         if place >= drawer.len() {
             return Answer::NoTicket;
         }
         let ticket = drawer.remove(place);
-        match self.post(sheet, ticket, booked, effective, amount) {
+        match self.post(sheet, ticket, booked, terms) {
             Ok(number) => Answer::Booked(number),
             Err((ticket, fault)) => {
                 drawer.insert(place, ticket).unwrap();
@@ -120,9 +119,8 @@ impl<R: Register, C: Cohort> Cube<R, C> {
                 kind,
                 booked,
                 claim,
-                effective,
-                amount,
-            } => Ok(booked_answer(self.movement(sheet, kind, booked, claim, effective, amount))),
+                terms,
+            } => Ok(booked_answer(self.movement(sheet, kind, booked, claim, terms))),
             Request::Void { booked, number } => Ok(booked_answer(self.void(sheet, booked, number))),
             Request::Redate {
                 booked,
@@ -133,9 +131,8 @@ impl<R: Register, C: Cohort> Cube<R, C> {
             Request::Post {
                 place,
                 booked,
-                effective,
-                amount,
-            } => Ok(self.serve_post(sheet, drawer, place, booked, effective, amount)),
+                terms,
+            } => Ok(self.serve_post(sheet, drawer, place, booked, terms)),
             Request::Drop { place } => Ok(self.serve_drop(drawer, place)),
             Request::Query { known, valued } => self.serve_query(heap, known, valued),
         }

@@ -5,6 +5,7 @@ ghost use Rattle.values.specs.Making.{day_of};
 
 use super::Day;
 use crate::fault::ValueFault;
+use std::fmt;
 
 const FIRST_YEAR: u64 = 1900;
 
@@ -66,5 +67,15 @@ impl Day {
         ensures { result ≡ month_number self.number }
     {
         self.number / 10_000 * 12 + self.number / 100 % 100 - 1
+    }
+}
+
+// Year, month and day of the month: 2021-04-15.
+impl fmt::Display for Day {
+    fn fmt<W: fmt::Write>(&self, f: &mut fmt::Formatter<W>) -> fmt::Result {
+        let year = self.number / 10_000;
+        let month = self.number / 100 % 100;
+        let day = self.number % 100;
+        write!(f, "{year}-{month:02}-{day:02}")
     }
 }
