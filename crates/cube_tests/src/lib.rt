@@ -8,7 +8,7 @@ mod tests {
     use cube::request::{Answer, Request};
     use cube::ticket::Ticket;
     use register::cards::{ClaimCard, PageCard};
-    use register::entry::{Content, Entry, Void};
+    use register::entry::{Content, Entry, Terms, Void};
     use register::flat::FlatLog;
     use register::kind::MovementKind;
     use register::numbered::NumberedEntry;
@@ -24,10 +24,7 @@ mod tests {
 
     // The refusal number of an answer, 0 where it was accepted.
     fn fault_of<T: Drop>(answer: Result<T, CallFault>) -> u32 {
-        match answer {
-            Ok(_) => 0,
-            Err(fault) => fault.number(),
-        }
+        answer.map_or_else(|fault| fault.number(), |_| 0)
     }
 
     // The refusal number of a draft that should be refused; its ticket, if it has one, is dropped.
@@ -44,10 +41,9 @@ mod tests {
         sheet: &mut [i64],
         ticket: Ticket,
         booked: Day,
-        effective: Day,
-        amount: Amount,
+        terms: Terms,
     ) -> u32 {
-        match cube.post(sheet, ticket, booked, effective, amount) {
+        match cube.post(sheet, ticket, booked, terms) {
             Ok(number) => number,
             Err((ticket, fault)) => {
                 let _ = cube.drop_draft(ticket);
@@ -81,16 +77,24 @@ mod tests {
         let booked = Day::new(20_220_203)?;
         let kind = MovementKind::Paid;
         let amount = Amount::new(20_000)?;
+        let late = Terms {
+            effective: paid,
+            amount,
+        };
+        let early = Terms {
+            effective: opened,
+            amount,
+        };
         assert_eq!(rt;
-            fault_of(cube.movement(&mut sheet, kind, booked, 2, paid, amount)),
+            fault_of(cube.movement(&mut sheet, kind, booked, 2, late)),
             12
         );
         assert_eq!(rt;
-            fault_of(cube.movement(&mut sheet, kind, booked, 1, opened, amount)),
+            fault_of(cube.movement(&mut sheet, kind, booked, 1, early)),
             0
         );
         assert_eq!(rt;
-            fault_of(cube.movement(&mut sheet, kind, opened, 1, opened, amount)),
+            fault_of(cube.movement(&mut sheet, kind, opened, 1, early)),
             7
         );
         assert_eq!(rt; (sheet[3], sheet[13]), (20_000, 20_000));
@@ -115,19 +119,24 @@ mod tests {
         let paid = Day::new(20_220_201)?;
         let booked = Day::new(20_220_203)?;
         let corrected = Day::new(20_220_301)?;
-        let less = Amount::new(12_000)?;
+        let terms = Terms {
+            effective: paid,
+            amount: Amount::new(20_000)?,
+        };
+        let less = Terms {
+            amount: Amount::new(12_000)?,
+            ..terms
+        };
         let kind = MovementKind::Paid;
         assert_eq!(rt;
-            fault_of(cube.movement(&mut sheet, kind, booked, 1, paid, Amount::new(20_000)?)),
+            fault_of(cube.movement(&mut sheet, kind, booked, 1, terms)),
             0
         );
         assert_eq!(rt; draft_fault(&mut cube, 1), 15);
-        let Ok(ticket) = cube.draft(2) else {
-            return Err(Fail::new("the draft is refused"));
-        };
+        let ticket = cube.draft(2)?;
         let second = draft_fault(&mut cube, 2);
         let voided = fault_of(cube.void(&mut sheet, booked, 2));
-        let posted = post(&mut cube, &mut sheet, ticket, corrected, paid, less);
+        let posted = post(&mut cube, &mut sheet, ticket, corrected, less);
         assert_eq!(rt; (second, voided, posted), (17, 17, 3));
         assert_eq!(rt; (sheet[4], sheet[14], sheet[23]), (12_000, 12_000, 1));
         let earlier = ClaimDays::new(20_200_101, 20_201_231, 20_210_503)?;
@@ -148,31 +157,16 @@ mod tests {
         }
     }
 
-    // A row of such numbers as one, and 1 if memory ran out.
-    fn code(numbers: &[u64]) -> u64 {
-        let mut code = 2u64;
-        for number in numbers {
-            code = code.wrapping_mul(200).wrapping_add(*number);
-        }
-        code
-    }
-
-    // Runs a row, and tells its answers by their code.
+    // Runs a row, and tells its answers, none where memory ran out.
     fn run<R: Register>(
         heap: Global,
         cube: &mut Cube<R, PeriodCohort>,
         sheet: &mut [i64],
         drawer: &mut Vec<Ticket>,
         row: &[Request],
-    ) -> u64 {
-        let Ok(answers) = cube.run(heap, sheet, drawer, row) else {
-            return 1;
-        };
-        let mut code = 2u64;
-        for answer in answers.as_slice() {
-            code = code.wrapping_mul(200).wrapping_add(told(answer));
-        }
-        code
+    ) -> Option<Vec<u64>> {
+        let answers = cube.run(heap, sheet, drawer, row).ok()?;
+        answers.iter().map(told).collect(heap).ok()
     }
 
     // Books a payment, corrects it and redates its claim by rows of requests, and asks for the sheets that stood before.
@@ -195,15 +189,19 @@ mod tests {
                 kind: MovementKind::Paid,
                 booked: paid,
                 claim: 1,
-                effective,
-                amount: Amount::new(20_000)?,
+                terms: Terms {
+                    effective,
+                    amount: Amount::new(20_000)?,
+                },
             },
         ];
         let post = Request::Post {
             place: 0,
             booked: corrected,
-            effective,
-            amount: Amount::new(12_000)?,
+            terms: Terms {
+                effective,
+                amount: Amount::new(12_000)?,
+            },
         };
         let correcting = [
             Request::Draft { number: 2 },
@@ -230,8 +228,14 @@ mod tests {
         let stood = sheet;
         let second = run(heap, &mut cube, &mut sheet, &mut drawer, &correcting);
         cube.drop_all(drawer);
-        assert_eq!(rt; first, code(&[0, 0]));
-        assert_eq!(rt; second, code(&[0, 17, 0, 100, 16, 0, 100, 0]));
+        let (Some(first), Some(second)) = (first, second) else {
+            return Err(Fail::new("memory ran out in a row"));
+        };
+        assert_eq!(rt; first.as_slice(), [0, 0].as_slice());
+        assert_eq!(rt;
+            second.as_slice(),
+            [0, 17, 0, 100, 16, 0, 100, 0].as_slice()
+        );
         assert_eq!(rt; (stood[4], stood[14], stood[23]), (20_000, 20_000, 1));
         assert_eq!(rt; (sheet[2], sheet[12], sheet[21]), (12_000, 12_000, 1));
         let mut answer = [7i64; 30];
@@ -255,79 +259,76 @@ mod tests {
         Ok(())
     }
 
-    #[test]
-    fn flat(rt: HostRuntime) -> Result<(), Fail> {
-        let day = Day::new(20_200_101)?;
-        let entry = Entry {
-            booked: day,
+    // What lies in memory before.
+    fn leftover() -> Result<Entry, Fail> {
+        Ok(Entry {
+            booked: Day::new(20_200_101)?,
             claim: 7,
             content: Content::Void(Void { names: 3 }),
-        };
-        let mut slots = vec![in rt.alloc(); entry; 32]?;
+        })
+    }
+
+    // Memory for a paged register of 4 claims, full of what lay there before.
+    #[derive(Drop)]
+    struct PagedMemory {
+        pages: Vec<PageCard>,
+        slots: Vec<NumberedEntry>,
+        claims: Vec<ClaimCard>,
+        places: Vec<u32>,
+    }
+
+    impl PagedMemory {
+        fn new(heap: Global) -> Result<PagedMemory, Fail> {
+            let slot = NumberedEntry {
+                number: 9,
+                entry: leftover()?,
+            };
+            let card = ClaimCard {
+                first: 1,
+                last: 2,
+                spare: 3,
+            };
+            Ok(PagedMemory {
+                pages: vec![in heap; PageCard { next: 3 }; 8]?,
+                slots: vec![in heap; slot; 128]?,
+                claims: vec![in heap; card; 4]?,
+                places: vec![in heap; 5u32; 64]?,
+            })
+        }
+
+        fn register(&mut self) -> PagedRegister<'_> {
+            PagedRegister::new(
+                &mut self.pages,
+                &mut self.slots,
+                &mut self.claims,
+                &mut self.places,
+            )
+        }
+    }
+
+    #[test]
+    fn flat(rt: HostRuntime) -> Result<(), Fail> {
+        let mut slots = vec![in rt.alloc(); leftover()?; 32]?;
         book(&rt, FlatLog::new(&mut slots, 4))?;
         correct(&rt, FlatLog::new(&mut slots, 4))
     }
 
     #[test]
     fn paged(rt: HostRuntime) -> Result<(), Fail> {
-        let day = Day::new(20_200_101)?;
-        let entry = Entry {
-            booked: day,
-            claim: 7,
-            content: Content::Void(Void { names: 3 }),
-        };
-        let slot = NumberedEntry { number: 9, entry };
-        let heap = rt.alloc();
-        let mut pages = vec![in heap; PageCard { next: 3 }; 8]?;
-        let mut slots = vec![in heap; slot; 128]?;
-        let mut claims = vec![in heap; ClaimCard {
-            first: 1,
-            last: 2,
-            spare: 3
-        }; 4]?;
-        let mut places = vec![in heap; 5u32; 64]?;
-        book(
-            &rt,
-            PagedRegister::new(&mut pages, &mut slots, &mut claims, &mut places),
-        )?;
-        correct(
-            &rt,
-            PagedRegister::new(&mut pages, &mut slots, &mut claims, &mut places),
-        )
+        let mut memory = PagedMemory::new(rt.alloc())?;
+        book(&rt, memory.register())?;
+        correct(&rt, memory.register())
     }
 
     #[test]
     fn flat_rows(rt: HostRuntime) -> Result<(), Fail> {
-        let entry = Entry {
-            booked: Day::new(20_200_101)?,
-            claim: 7,
-            content: Content::Void(Void { names: 3 }),
-        };
-        let mut slots = vec![in rt.alloc(); entry; 32]?;
+        let mut slots = vec![in rt.alloc(); leftover()?; 32]?;
         recall(&rt, rt.alloc(), FlatLog::new(&mut slots, 4))
     }
 
     #[test]
     fn paged_rows(rt: HostRuntime) -> Result<(), Fail> {
-        let entry = Entry {
-            booked: Day::new(20_200_101)?,
-            claim: 7,
-            content: Content::Void(Void { names: 3 }),
-        };
-        let slot = NumberedEntry { number: 9, entry };
-        let heap = rt.alloc();
-        let mut pages = vec![in heap; PageCard { next: 3 }; 8]?;
-        let mut slots = vec![in heap; slot; 128]?;
-        let mut claims = vec![in heap; ClaimCard {
-            first: 1,
-            last: 2,
-            spare: 3
-        }; 4]?;
-        let mut places = vec![in heap; 5u32; 64]?;
-        recall(
-            &rt,
-            heap,
-            PagedRegister::new(&mut pages, &mut slots, &mut claims, &mut places),
-        )
+        let mut memory = PagedMemory::new(rt.alloc())?;
+        recall(&rt, rt.alloc(), memory.register())
     }
 }
