@@ -3,8 +3,9 @@ use Rattle.std.proofs.Common.{◌≡◌, ℕ, zero, suc, ◌+◌, ◌-◌, ◌<�
 use Rattle.std.specs.Result.{is_ok}
 use Rattle.std.specs.List.{position, position_or_len}
 use Rattle.std.proofs.lemmas.List.{get_or-drop, length-drop}
+use Rattle.std.proofs.lemmas.List.Folds.{list_all-append}
 use Rattle.std.proofs.lemmas.List.Quantifiers.{position-Some}
-use Rattle.std.proofs.lemmas.Bool.{and_from, and_parts, eq-eqb, ne_eqb, cond-true, cond-false, cases_Bool, cases_lt, lt-ltb}
+use Rattle.std.proofs.lemmas.Bool.{and_from, eq-eqb, ne_eqb, cond-true, cond-false, cases_Bool, cases_lt, lt-ltb}
 use Rattle.register.specs.declared.bounded.CapacityError.{CapacityError}
 use Rattle.register.specs.declared.entry.Entry.{Entry}
 use Rattle.register.specs.Entries.{is_opening, openings_in}
@@ -27,10 +28,7 @@ openings_le [] = omega arith
 openings_le (e ∷ es) = omega (arith, openings_le es, one_or_none (is_opening e))
 
 pub claims_push : (bound : ℕ) (es : List Entry) (e : Entry) → claims_known bound es ≡ true → is_claim bound e.claim ≡ true → claims_known bound (es ++ (e ∷ [])) ≡ true
-claims_push bound [] e known is = and_from (is_claim bound e.claim) true is refl
-claims_push bound (x ∷ es) e known is =
-    let both = and_parts (is_claim bound x.claim) (claims_known bound es) known in
-    and_from (is_claim bound x.claim) (claims_known bound (es ++ (e ∷ []))) both.0 (claims_push bound es e both.1 is)
+claims_push bound es e known is = list_all-append (λ x. is_claim bound x.claim) es (e ∷ []) ∙ and_from _ _ known (and_from _ _ is refl)
 
 -- the first entry of a claim is the k-th of the list, if none before it is of the claim
 first_at : (es : List Entry) (claim n k : ℕ) (d : Entry) → k < length es → eqb (get_or es k d).claim claim ≡ true → ((j : ℕ) → j < k → eqb (get_or es j d).claim claim ≡ false) → first_of es claim n ≡ Some (record { number = n + k + 1; entry = get_or es k d })

@@ -4,7 +4,8 @@ use Rattle.std.proofs.iter.runs.Sources.{as_is, from_front}
 use Rattle.std.specs.Iterator.{YieldsFirst}
 use Rattle.std.specs.Iterator.Runs.{YieldsInOrder}
 use Rattle.std.specs.List.{list_any}
-use Rattle.std.proofs.lemmas.List.{at_drop_more, at_drop_all, drop-drop}
+use Rattle.std.proofs.lemmas.List.{at_drop_more, at_drop_all, drop-drop, length-drop}
+use Rattle.std.proofs.lemmas.List.Sums.{length-filter, count_by-le-length}
 use Rattle.std.proofs.lemmas.Option.{slice_get-get_or, slice_get_past}
 use Rattle.std.proofs.lemmas.Bool.{cases_Bool, cond-true, cond-false, cases_lt, eqb-true, eq-eqb, ne_eqb, and_left}
 use Rattle.register.specs.declared.entry.Entry.{Entry}
@@ -38,6 +39,19 @@ module _ (es : List Entry) (n : ℕ) where
         | inl within ↦ absurd (let at : None ≡ Some (get_or es n blank_entry) = is ∙ later es n ∙ slice_get-get_or es n blank_entry within in let no : ◌≡◌ {A = ℕ} 0 1 = cc in omega arith)
         | inr past ↦ at_drop_all (numbered_from n) es n past
       ]
+
+numbered_length : (n : ℕ) (es : List Entry) → length (numbered_from n es) ≡ length es
+numbered_length n [] = refl
+numbered_length n (e ∷ es) = ap suc (numbered_length (n + 1) es)
+
+pub entries_le : (es : List Entry) (after : ℕ) → length (entries_after es after) ≤ length es
+entries_le es after = omega (arith, numbered_length after (drop after es), length-drop after es)
+
+-- a claim has no more entries than there are, so that they can be counted
+pub claim_entries_le : (es : List Entry) (claim after : ℕ) → length (claim_entries_after es claim after) ≤ length es
+claim_entries_le es claim after =
+    let all = entries_after es after in
+    omega (arith, length-filter (λ x. eqb x.entry.claim claim) all, count_by-le-length (λ x. eqb x.entry.claim claim) all, entries_le es after)
 
 module _ (claim : ℕ) where
   abbrev of : List NumberedEntry → List NumberedEntry
@@ -84,8 +98,8 @@ or_else : (b rest : Bool) → (b || rest) ≡ cond b true rest
 or_else true rest = refl
 or_else false rest = refl
 
--- Functions of a list, and of the number before its first entry, that look only at the entries of a claim: a fold, a test
--- and a list of parts. What they give of the entries after a number is what the same gives of those entries of the claim.
+-- Functions of a list, and of the number before its first entry, that look only at the entries of a claim: a fold, a test,
+-- a list of parts and a count. What they give of the entries after a number is what the same gives of those entries of the claim.
 module _ (claim : ℕ) where
   abbrev all : ℕ → List Entry → List NumberedEntry
   all n es = filter (λ x. eqb x.entry.claim claim) (numbered_from n es)
@@ -139,6 +153,21 @@ module _ (claim : ℕ) where
 
       pub claim_parts : (es : List Entry) (after : ℕ) → flat_map part (claim_entries_after es claim after) ≡ H after (drop after es)
       claim_parts es after = joined after (drop after es)
+
+  module _ (H : List Entry → ℕ) (ends : H [] ≡ 0)
+      (here : (e : Entry) (es : List Entry) → e.claim ≡ claim → H (e ∷ es) ≡ 1 + H es)
+      (skips : (e : Entry) (es : List Entry) → eqb e.claim claim ≡ false → H (e ∷ es) ≡ H es)
+    where
+      counted : (n : ℕ) (es : List Entry) → length (all n es) ≡ H es
+      counted n [] = sym ends
+      counted n (e ∷ es) =
+          elim (cases_Bool (eqb e.claim claim)) [
+            | inl is ↦ omega (arith, ap length (cond-true (eqb e.claim claim) (record { number = n + 1; entry = e } ∷ all (n + 1) es) (all (n + 1) es) is), counted (n + 1) es, here e es (eqb-true _ _ is))
+            | inr other ↦ ap length (cond-false _ _ _ other) ∙ counted (n + 1) es ∙ sym (skips e es other)
+          ]
+
+      pub claim_count : (es : List Entry) (after : ℕ) → length (claim_entries_after es claim after) ≡ H (drop after es)
+      claim_count es after = counted after (drop after es)
 
 -- the claim days in force, and whether an entry is replaced, by the entries of the claim alone
 pub claim_days_folded : (es : List Entry) (claim : ℕ) → fold (λ days x. days_after days x.entry.content) None (claim_entries_after es claim 0) ≡ claim_days_in es claim

@@ -1,5 +1,6 @@
 -- What a register means, and what its questions and its adding answer. Assumes nothing.
 use Rattle.std.specs.Prelude.{◌≡◌, ℕ, ◌+◌, ◌≤◌, Bool, true, cond, ◌&&◌, List, [], ◌∷◌, ◌++◌, length, drop, filter, Some, None, Ok, Err, Option, Result, ◌==◌, nat_le}
+use Rattle.std.specs.List.{list_all}
 use Rattle.register.specs.declared.entry.Entry.{Entry}
 use Rattle.register.specs.declared.fault.AddFault.{AddFault}
 use Rattle.register.specs.declared.fault.AddFault.TheVariants.{NoSuchClaim, Full}
@@ -16,8 +17,7 @@ abbrev pub is_claim : (bound claim : ℕ) → Bool
 is_claim bound claim = nat_le 1 claim && nat_le claim bound
 
 abbrev pub claims_known : (bound : ℕ) → List Entry → Bool
-claims_known bound [] = true
-claims_known bound (e ∷ es) = is_claim bound e.claim && claims_known bound es
+claims_known bound es = list_all (λ e. is_claim bound e.claim) es
 
 -- what holds of every register
 pub record Sound (m : Meaning) : Type 0 where

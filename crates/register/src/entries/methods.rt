@@ -1,5 +1,5 @@
 // Making the iterators, and the entries that they yield.
-ghost use Rattle.std.specs.Prelude.{◌≡◌};
+ghost use Rattle.std.specs.Prelude.{◌≡◌, ◌≤◌, length};
 ghost use Rattle.std.specs.Iterator.{YieldsFirst, item_count};
 ghost use Rattle.std.specs.Iterator.Runs.{YieldsInOrder};
 ghost use Rattle.register.specs.Iterators.{claim_entries_left, entries_left};
@@ -12,6 +12,7 @@ use crate::register::Register;
 // All entries of a register.
 pub fn all_entries<R: Register>(register: &R) -> Entries<'_, R>
     ensures left { entries_left R.Register.meaning result ≡ entries_after (R.Register.meaning register.now).entries 0 }
+    ensures few { length (entries_left R.Register.meaning result) ≤ 65536 }
     ensures runs { YieldsInOrder (YieldsFirst (entries_left R.Register.meaning)) (entries_left R.Register.meaning) }
 {
     Entries { register, after: 0 }
@@ -20,6 +21,7 @@ pub fn all_entries<R: Register>(register: &R) -> Entries<'_, R>
 // The entries of a claim with a number above `after`.
 pub fn claim_entries<R: Register>(register: &R, claim: u32, after: u32) -> ClaimEntries<'_, R>
     ensures left { claim_entries_left R.Register.meaning result ≡ claim_entries_after (R.Register.meaning register.now).entries claim after }
+    ensures few { length (claim_entries_left R.Register.meaning result) ≤ 65536 }
     ensures runs { YieldsInOrder (YieldsFirst (claim_entries_left R.Register.meaning)) (claim_entries_left R.Register.meaning) }
 {
     ClaimEntries {

@@ -1,12 +1,11 @@
-use Rattle.std.proofs.Common.{◌≡◌, ℕ, ◌+◌, ◌-◌, ◌^◌, ◌<◌, true, List, [], ◌∷◌, ◌++◌, length, Ok, sym, ap, ◌∙◌, arith, rules}
+use Rattle.std.proofs.Common.{◌≡◌, ℕ, ◌+◌, ◌-◌, ◌<◌, true, List, [], ◌∷◌, ◌++◌, length, Ok, sym, ap, ◌∙◌, arith, rules}
 use Rattle.std.proofs.lemmas.List.{length-map, length_push, length-set}
-use Rattle.std.proofs.lemmas.Bool.{cond-true, cond-false, lt-ltb, ne_eqb}
-use Rattle.register.specs.declared.cards.ClaimCard.{ClaimCard}
+use Rattle.std.proofs.lemmas.Bool.{cond-true, cond-false, ne_eqb}
 use Rattle.register.specs.declared.entry.Entry.{Entry}
 use Rattle.register.specs.declared.paged.PagedRegister.{PagedRegister}
 use Rattle.register.specs.Entries.{openings_in}
 use Rattle.register.specs.Paged.{paged_meaning}
-use Rattle.register.specs.Pages.{card_of, free_slot, paged_capacity, place_of, slot_at}
+use Rattle.register.specs.Pages.{paged_capacity, slot_at}
 use Rattle.register.specs.Registers.{Meaning, is_claim, add_answer, after_add}
 use Rattle.register.proofs.Booked.{openings_le, openings_push, push_fits}
 use Rattle.register.proofs.Laying.{is_claim_lem}
@@ -40,25 +39,19 @@ free_slot-slot-requires c =
       within = omega (arith, c.place_of-last_slot.ensures.small);
     }
 
--- the slot lies in memory, and its number is small
-slot_small : (r : PagedRegister) (e : Entry) (card : ClaimCard) (last_slot slot : ℕ) → is_claim (length r.claims.now) e.claim ≡ true → length r.places.items < (paged_meaning r).capacity → card ≡ card_of r.claims.now e.claim → last_slot ≡ place_of r.places.items card.last → slot ≡ free_slot r.pages.items card last_slot → (slot < length r.slots.now) × (slot < 2 ^ 32)
-slot_small r e card last_slot slot is room card_is last_is slot_is =
-    let at = slot_in r e is room card card_is last_slot last_is in
-    (omega (arith, at.0), omega (arith, at.1))
-
 pub offset_bounds-slots-slot : goal.offset_bounds-slots-slot
 offset_bounds-slots-slot c =
     let r = c.args.self.now in
     let is : is_claim (length r.claims.now) c.args.entry.claim ≡ true = search rules in
     let room = free r _ _ c.len-len.ensures c.capacity.ensures c.if-len-capacity.false in
-    omega (arith, (slot_small r c.args.entry c.card-card.result c.place_of-last_slot.result c.free_slot-slot.result is room c.card-card.ensures c.place_of-last_slot.ensures.value c.free_slot-slot.ensures.slot).1)
+    omega (arith, slot_in r c.args.entry is room c.card-card.result c.card-card.ensures c.place_of-last_slot.result c.place_of-last_slot.ensures.value, c.free_slot-slot.ensures.slot)
 
 pub bounds-slots-slot : goal.bounds-slots-slot
 bounds-slots-slot c =
     let r = c.args.self.now in
     let is : is_claim (length r.claims.now) c.args.entry.claim ≡ true = search rules in
     let room = free r _ _ c.len-len.ensures c.capacity.ensures c.if-len-capacity.false in
-    (slot_small r c.args.entry c.card-card.result c.place_of-last_slot.result c.free_slot-slot.result is room c.card-card.ensures c.place_of-last_slot.ensures.value c.free_slot-slot.ensures.slot).0
+    omega (arith, slot_in r c.args.entry is room c.card-card.result c.card-card.ensures c.place_of-last_slot.result c.place_of-last_slot.ensures.value, c.free_slot-slot.ensures.slot)
 
 pub bounds-claims-entry : goal.bounds-claims-entry
 bounds-claims-entry c =
@@ -70,7 +63,7 @@ overflow_cast-slot c =
     let r = c.args.self.now in
     let is : is_claim (length r.claims.now) c.args.entry.claim ≡ true = search rules in
     let room = free r _ _ c.len-len.ensures c.capacity.ensures c.if-len-capacity.false in
-    omega (arith, (slot_small r c.args.entry c.card-card.result c.place_of-last_slot.result c.free_slot-slot.result is room c.card-card.ensures c.place_of-last_slot.ensures.value c.free_slot-slot.ensures.slot).1)
+    omega (arith, slot_in r c.args.entry is room c.card-card.result c.card-card.ensures c.place_of-last_slot.result c.place_of-last_slot.ensures.value, c.free_slot-slot.ensures.slot)
 
 pub overflow_add-opened : goal.overflow_add-opened
 overflow_add-opened c =
