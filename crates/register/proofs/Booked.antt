@@ -1,10 +1,19 @@
 -- A list of entries with one more at its end, and the first entry of a claim in a list. Assumes nothing.
-use Rattle.std.proofs.Common.{◌≡◌, ℕ, zero, suc, ◌+◌, ◌-◌, ◌<◌, ◌≤◌, Bool, true, false, cond, eqb, List, [], ◌∷◌, ◌++◌, length, get_or, drop, Some, None, sym, refl, ap, ◌∙◌, inl, inr, arith}
-use Rattle.std.proofs.lemmas.List.{at_drop_more, at_drop_all, get_or_default}
-use Rattle.std.proofs.lemmas.Bool.{and_from, and_parts, eq-eqb, ne_eqb, cond-true, cond-false, cases_lt}
+use Rattle.std.proofs.Common.{◌≡◌, ℕ, zero, suc, ◌+◌, ◌-◌, ◌<◌, ◌≤◌, Bool, true, false, cond, not, eqb, ltb, List, [], ◌∷◌, ◌++◌, length, get_or, drop, Some, None, Result, Ok, Err, sym, refl, ap, ◌∙◌, inl, inr, arith}
+use Rattle.std.specs.Result.{is_ok}
+use Rattle.std.specs.List.{position, position_or_len}
+use Rattle.std.proofs.lemmas.List.{get_or-drop, length-drop}
+use Rattle.std.proofs.lemmas.List.Folds.{list_all-append}
+use Rattle.std.proofs.lemmas.List.Quantifiers.{position-Some}
+use Rattle.std.proofs.lemmas.Bool.{and_from, eq-eqb, ne_eqb, cond-true, cond-false, cases_Bool, cases_lt, lt-ltb}
+use Rattle.register.specs.declared.bounded.CapacityError.{CapacityError}
 use Rattle.register.specs.declared.entry.Entry.{Entry}
 use Rattle.register.specs.Entries.{is_opening, openings_in}
 use Rattle.register.specs.Registers.{is_claim, claims_known, first_of, next_in}
+
+-- a push onto a bounded list that has room
+pub push_fits : {T : Type 0} (room : ℕ) (before after : List T) (x : T) (answer : Result (Unit {0}) CapacityError) → length before < room → answer ≡ cond (ltb (length before) room) (Ok tt) (Err (record {})) → after ≡ cond (is_ok answer) (before ++ (x ∷ [])) before → after ≡ before ++ (x ∷ [])
+push_fits room before after x answer free is left = left ∙ cond-true _ _ _ (ap is_ok (is ∙ cond-true _ _ _ (lt-ltb _ _ free)))
 
 one_or_none : (b : Bool) → cond b 1 0 ≤ 1
 one_or_none true = omega arith
@@ -19,60 +28,58 @@ openings_le [] = omega arith
 openings_le (e ∷ es) = omega (arith, openings_le es, one_or_none (is_opening e))
 
 pub claims_push : (bound : ℕ) (es : List Entry) (e : Entry) → claims_known bound es ≡ true → is_claim bound e.claim ≡ true → claims_known bound (es ++ (e ∷ [])) ≡ true
-claims_push bound [] e known is = and_from (is_claim bound e.claim) true is refl
-claims_push bound (x ∷ es) e known is =
-    let both = and_parts (is_claim bound x.claim) (claims_known bound es) known in
-    and_from (is_claim bound x.claim) (claims_known bound (es ++ (e ∷ []))) both.0 (claims_push bound es e both.1 is)
+claims_push bound es e known is = list_all-append (λ x. is_claim bound x.claim) es (e ∷ []) ∙ and_from _ _ known (and_from _ _ is refl)
 
-module _ (es : List Entry) (claim index : ℕ) where
-  -- the entry after the number is of the claim
-  pub next_here : (e : Entry) → index < length es → e ≡ get_or es index e → e.claim ≡ claim → next_in es claim index ≡ Some (record { number = index + 1; entry = e })
-  next_here e within read is =
-      at_drop_more (λ rest. first_of rest claim index) es index e within
-      ∙ ap (λ x. first_of (x ∷ drop (index + 1) es) claim index) (sym read)
-      ∙ cond-true (eqb e.claim claim) _ _ (eq-eqb e.claim claim is)
+-- the first entry of a claim is the k-th of the list, if none before it is of the claim
+first_at : (es : List Entry) (claim n k : ℕ) (d : Entry) → k < length es → eqb (get_or es k d).claim claim ≡ true → ((j : ℕ) → j < k → eqb (get_or es j d).claim claim ≡ false) → first_of es claim n ≡ Some (record { number = n + k + 1; entry = get_or es k d })
+first_at [] claim n k d within is none = absurd (omega arith)
+first_at (e ∷ es) claim n zero d within is none = cond-true _ _ _ is ∙ ap (λ m. Some (record { number = m; entry = e })) (omega arith)
+first_at (e ∷ es) claim n (suc k) d within is none =
+    cond-false _ _ _ (none 0 (omega arith)) ∙ first_at es claim (n + 1) k d (omega arith) is (λ j h. none (suc j) (omega arith))
+    ∙ ap (λ m. Some (record { number = m; entry = get_or es k d })) (omega arith)
 
-  -- it is not
-  pub next_skip : (e : Entry) → index < length es → e ≡ get_or es index e → (e.claim ≡ claim → ⊥) → next_in es claim index ≡ next_in es claim (index + 1)
-  next_skip e within read other =
-      at_drop_more (λ rest. first_of rest claim index) es index e within
-      ∙ ap (λ x. first_of (x ∷ drop (index + 1) es) claim index) (sym read)
-      ∙ cond-false (eqb e.claim claim) _ _ (ne_eqb e.claim claim other)
+first_none : (es : List Entry) (claim n : ℕ) (d : Entry) → ((j : ℕ) → j < length es → eqb (get_or es j d).claim claim ≡ false) → first_of es claim n ≡ None
+first_none [] claim n d none = refl
+first_none (e ∷ es) claim n d none = cond-false _ _ _ (none 0 (omega arith)) ∙ first_none es claim (n + 1) d (λ j h. none (suc j) (omega arith))
 
-  -- there is none
-  pub next_past : length es ≤ index → next_in es claim index ≡ None
-  next_past past = at_drop_all (λ rest. first_of rest claim index) es index past
+-- the same by the position of the claim in the list
+abbrev of : ℕ → Entry → Bool
+of claim e = eqb e.claim claim
 
--- the first entry of the claim after i is the one k places further on, if none between is of the claim
-next_at : (es : List Entry) (claim : ℕ) (d : Entry) (k i : ℕ) → i + k < length es → ((j : ℕ) → i ≤ j → j < i + k → (get_or es j d).claim ≡ claim → ⊥) → (get_or es (i + k) d).claim ≡ claim → next_in es claim i ≡ Some (record { number = i + k + 1; entry = get_or es (i + k) d })
-next_at es claim d zero i within none is =
-    let here : i + 0 ≡ i = omega arith in
-    next_here es claim i (get_or es i d) (omega arith) (get_or_default es i d (get_or es i d) (omega arith)) (ap (λ m. (get_or es m d).claim) (sym here) ∙ is)
-    ∙ ap (λ m. Some (record { number = m + 1; entry = get_or es m d })) (sym here)
-next_at es claim d (suc k) i within none is =
-    let on : i + 1 + k ≡ i + suc k = omega arith in
-    next_skip es claim i (get_or es i d) (omega arith) (get_or_default es i d (get_or es i d) (omega arith)) (none i (omega arith) (omega arith))
-    ∙ next_at es claim d k (i + 1) (omega arith) (λ j a b. none j (omega arith) (omega arith)) (ap (λ m. (get_or es m d).claim) on ∙ is)
-    ∙ ap (λ m. Some (record { number = m + 1; entry = get_or es m d })) on
+past_all : (es : List Entry) (claim n : ℕ) → length es ≤ position_or_len (of claim) es → first_of es claim n ≡ None
+past_all [] claim n past = refl
+past_all (e ∷ es) claim n past =
+    elim (cases_Bool (of claim e)) [
+      | inl is ↦ absurd (omega (arith, cond-false (not (of claim e)) (1 + position_or_len (of claim) es) 0 (ap not is)))
+      | inr other ↦ cond-false _ _ _ other ∙ past_all es claim (n + 1) (omega (arith, cond-true (not (of claim e)) (1 + position_or_len (of claim) es) 0 (ap not other)))
+    ]
 
--- it is the entry n, if none between the number and n is of the claim
+module _ (es later : List Entry) (claim after : ℕ) (are : later ≡ drop after es) where
+  pub next_at : (i : ℕ) (e : Entry) → Some i ≡ position (of claim) later → e ≡ get_or later i e → Some (record { number = after + i + 1; entry = e }) ≡ next_in es claim after
+  next_at i e found read =
+      let at = position-Some (of claim) later i e (sym found) in
+      sym (ap (λ rest. first_of rest claim after) (sym are) ∙ first_at later claim after i e at.0 at.1 at.2 ∙ ap (λ x. Some (record { number = after + i + 1; entry = x })) (sym read))
+
+  pub next_past : None ≡ position (of claim) later → None ≡ next_in es claim after
+  next_past none =
+      elim (cases_lt (position_or_len (of claim) later) (length later)) [
+        | inl within ↦ absurd (let at : Some (position_or_len (of claim) later) ≡ None = sym (none ∙ cond-true _ _ _ (lt-ltb _ _ within)) in let no : ◌≡◌ {A = ℕ} 0 1 = cc in omega arith)
+        | inr past ↦ sym (ap (λ rest. first_of rest claim after) (sym are) ∙ past_all later claim after past)
+      ]
+
+-- the next entry of a claim is the entry n, if none between the number and n is of the claim
 pub next_is : (es : List Entry) (claim after n : ℕ) (d : Entry) → after < n → n ≤ length es → ((j : ℕ) → after ≤ j → j < n - 1 → (get_or es j d).claim ≡ claim → ⊥) → (get_or es (n - 1) d).claim ≡ claim → next_in es claim after ≡ Some (record { number = n; entry = get_or es (n - 1) d })
 next_is es claim after n d later within none is =
-    let at : after + (n - 1 - after) ≡ n - 1 = omega arith in
-    next_at es claim d (n - 1 - after) after (omega arith) (λ j a b. none j a (omega arith)) (ap (λ m. (get_or es m d).claim) at ∙ is)
-    ∙ ap (λ m. Some (record { number = m + 1; entry = get_or es m d })) at
+    let at : (k : ℕ) → get_or (drop after es) k d ≡ get_or es (after + k) d = λ k. get_or-drop after es k d in
+    let here : after + (n - 1 - after) ≡ n - 1 = omega arith in
+    first_at (drop after es) claim after (n - 1 - after) d (omega (arith, length-drop after es))
+    (eq-eqb _ _ (ap (λ x. x.claim) (at (n - 1 - after)) ∙ ap (λ m. (get_or es m d).claim) here ∙ is))
+    (λ j h. ne_eqb _ _ (λ same. none (after + j) (omega arith) (omega arith) (ap (λ x. x.claim) (sym (at j)) ∙ same)))
+    ∙ ap (λ x. Some (record { number = after + (n - 1 - after) + 1; entry = x })) (at (n - 1 - after) ∙ ap (λ m. get_or es m d) here)
     ∙ ap (λ m. Some (record { number = m; entry = get_or es (n - 1) d })) (omega arith)
-
-none_from : (es : List Entry) (claim : ℕ) (d : Entry) (k i : ℕ) → length es ≤ i + k → ((j : ℕ) → i ≤ j → j < length es → (get_or es j d).claim ≡ claim → ⊥) → next_in es claim i ≡ None
-none_from es claim d zero i past none = next_past es claim i (omega arith)
-none_from es claim d (suc k) i past none =
-    elim (cases_lt i (length es)) [
-      | inl within ↦
-          next_skip es claim i (get_or es i d) within (get_or_default es i d (get_or es i d) within) (none i (omega arith) within)
-          ∙ none_from es claim d k (i + 1) (omega arith) (λ j a b. none j (omega arith) b)
-      | inr past ↦ next_past es claim i past
-    ]
 
 -- there is none, if no entry after the number is of the claim
 pub next_none : (es : List Entry) (claim after : ℕ) (d : Entry) → ((j : ℕ) → after ≤ j → j < length es → (get_or es j d).claim ≡ claim → ⊥) → next_in es claim after ≡ None
-next_none es claim after d none = none_from es claim d (length es) after (omega arith) none
+next_none es claim after d none =
+    first_none (drop after es) claim after d
+    (λ j h. ne_eqb _ _ (λ same. none (after + j) (omega arith) (omega (arith, length-drop after es)) (ap (λ x. x.claim) (sym (get_or-drop after es j d)) ∙ same)))

@@ -1,7 +1,8 @@
 -- Adding an entry to the paged register keeps its layout, whether its page has a free slot or a page is taken into use.
 -- Assumes nothing.
-use Rattle.std.proofs.Common.{◌≡◌, ℕ, suc, ◌+◌, ◌-◌, ◌*◌, ◌/◌, ◌%◌, ◌<◌, ◌≤◌, Bool, true, false, cond, eqb, ltb, List, [], ◌∷◌, ◌++◌, length, get_or, set, sym, refl, ap, ◌∙◌, inl, inr, arith}
-use Rattle.std.proofs.lemmas.List.{get_or_append_left, get_or-set_same, get_or-set_other, length_push, length-set}
+use Rattle.std.proofs.Common.{◌≡◌, ℕ, ◌+◌, ◌-◌, ◌*◌, ◌/◌, ◌%◌, ◌<◌, ◌≤◌, Bool, true, false, cond, eqb, ltb, List, [], ◌∷◌, ◌++◌, length, get_or, set, sym, refl, ap, ◌∙◌, inl, inr, arith}
+use Rattle.std.proofs.lemmas.List.{get_or_append_left, get_or_default, get_or-set_same, get_or-set_other, length_push, length-set}
+use Rattle.std.proofs.lemmas.List.Sums.{sum_by-le, sum_by-set}
 use Rattle.std.proofs.lemmas.Bool.{cond-true, cond-false, eq-eqb, ne_eqb, eqb-true, eqb-false, lt-ltb, le-ltb, cases_eq, cases_lt}
 use Rattle.register.specs.declared.cards.ClaimCard.{ClaimCard}
 use Rattle.register.specs.declared.cards.PageCard.{PageCard}
@@ -9,7 +10,7 @@ use Rattle.register.specs.declared.entry.Entry.{Entry}
 use Rattle.register.specs.declared.numbered.NumberedEntry.{NumberedEntry}
 use Rattle.register.specs.Pages.{Laid, page_at, card_of, place_of, entries_of, claim_of, last_of, next_slot, spare_slots, spare_after, pages_for, paged_capacity, free_slot, page_added, pages_after, card_after}
 use Rattle.register.proofs.Last.{last_le}
-use Rattle.register.proofs.Laying.{Grows, spare_set, not_followed, laid_more, entries_more}
+use Rattle.register.proofs.Laying.{Grows, not_followed, laid_more, entries_more}
 
 -- no claim leaves more than 15 slots of a page
 spare_small : (places : List ℕ) (n : ℕ) → spare_after places n ≤ 15
@@ -20,8 +21,7 @@ spare_small places n =
     ]
 
 spares_small : (cards : List ClaimCard) (d : ClaimCard) → ((i : ℕ) → i < length cards → (get_or cards i d).spare ≤ 15) → spare_slots cards ≤ 15 * length cards
-spares_small [] d small = omega arith
-spares_small (card ∷ cards) d small = omega (arith, small 0 (omega arith), spares_small cards d (λ i h. small (suc i) (omega arith)))
+spares_small cards d small = omega (arith, sum_by-le (λ card. card.spare) 15 cards (λ i e h. omega (arith, small i h, ap (λ x. x.spare) (get_or_default cards i e d h))))
 
 abbrev no_card : ClaimCard
 no_card = record { first = 0; last = 0; spare = 0 }
@@ -49,7 +49,7 @@ module _ (pages : List PageCard) (slots : List NumberedEntry) (cards : List Clai
         | inl same ↦ omega (arith, ap (λ k. (get_or (set cards (c - 1) full_card) k no_card).spare) same, ap (λ x. x.spare) (get_or-set_same cards (c - 1) full_card no_card (omega arith)))
         | inr other ↦ omega (arith, ap (λ x. x.spare) (get_or-set_other cards (c - 1) i full_card no_card other), card_small i within)
       ]) in
-      omega (arith, small, length-set cards (c - 1) full_card, spare_set cards (c - 1) full_card no_card (omega arith), laid.counted)
+      omega (arith, small, length-set cards (c - 1) full_card, sum_by-set (λ card. card.spare) cards (c - 1) full_card no_card (omega arith), laid.counted)
 
   -- the entry before another of its claim is at no other claim's last slot, nor at its own
   abbrev before : ℕ → ℕ

@@ -1,6 +1,7 @@
 -- The layout of the paged register: what follows from it, and that one more entry keeps it. Assumes nothing.
-use Rattle.std.proofs.Common.{◌≡◌, ℕ, zero, suc, ◌+◌, ◌-◌, ◌*◌, ◌%◌, ◌<◌, ◌≤◌, true, cond, eqb, ◌⊎◌, List, [], ◌∷◌, ◌++◌, map, length, get_or, set, replicate, sym, refl, ap, ◌∙◌, inl, inr, arith}
+use Rattle.std.proofs.Common.{◌≡◌, ℕ, suc, ◌+◌, ◌-◌, ◌*◌, ◌%◌, ◌<◌, ◌≤◌, true, cond, eqb, ◌⊎◌, List, [], ◌∷◌, ◌++◌, map, length, get_or, set, replicate, sym, refl, ap, ◌∙◌, inl, inr, arith}
 use Rattle.std.proofs.lemmas.List.{get_or-map, length-map, get_or_append_left, get_or_push, get_or-set_same, get_or-set_other, length_push, length-set, map_push, get_or-replicate, length-replicate}
+use Rattle.std.proofs.lemmas.List.Sums.{AllPass-from_list_all, sum_by-le, sum_by-set}
 use Rattle.std.proofs.lemmas.Bool.{and_parts, and_from, leb-true, le-leb, cond-true, cond-false, eq-eqb, ne_eqb, cases_eq}
 use Rattle.register.specs.declared.cards.ClaimCard.{ClaimCard}
 use Rattle.register.specs.declared.cards.PageCard.{PageCard}
@@ -11,11 +12,6 @@ use Rattle.register.specs.Registers.{is_claim, claims_known}
 use Rattle.register.proofs.Booked.{claims_push}
 use Rattle.register.proofs.Last.{last_le, last_is, last_ge, last_same, last_more}
 
-claims_at : (bound : ℕ) (es : List Entry) (i : ℕ) (d : Entry) → claims_known bound es ≡ true → i < length es → is_claim bound (get_or es i d).claim ≡ true
-claims_at bound [] i d known within = absurd (omega arith)
-claims_at bound (e ∷ es) zero d known within = (and_parts (is_claim bound e.claim) (claims_known bound es) known).0
-claims_at bound (e ∷ es) (suc i) d known within = claims_at bound es i d (and_parts (is_claim bound e.claim) (claims_known bound es) known).1 (omega arith)
-
 pub is_claim_lem : (bound c : ℕ) → is_claim bound c ≡ true → (1 ≤ c) × (c ≤ bound)
 is_claim_lem bound c is = let both = and_parts _ _ is in (leb-true 1 c both.0, leb-true c bound both.1)
 
@@ -23,7 +19,7 @@ module _ (pages : List PageCard) (slots : List NumberedEntry) (cards : List Clai
   -- an entry's claim has a card
   pub claim_known : (n : ℕ) → 1 ≤ n → n ≤ length places → (1 ≤ claim_of slots places n) × (claim_of slots places n ≤ length cards)
   claim_known n one within =
-      let at = claims_at (length cards) (entries_of slots places) (n - 1) blank_entry laid.known (simp length-map (omega arith)) in
+      let at = AllPass-from_list_all (λ x. is_claim (length cards) x.claim) (entries_of slots places) laid.known (n - 1) blank_entry (simp length-map (omega arith)) in
       let read : get_or (entries_of slots places) (n - 1) blank_entry ≡ (slot_at slots (place_of places n)).entry = get_or-map (λ s. (slot_at slots s).entry) places (n - 1) 0 blank_entry (omega arith) in
       is_claim_lem (length cards) (claim_of slots places n) (sym (ap (λ x. is_claim (length cards) x.claim) read) ∙ at)
 
@@ -50,17 +46,16 @@ map_same f g (x ∷ xs) same =
     let rest = map_same f g xs (λ i h. same (suc i) (omega arith)) in
     simp (head, rest)
 
-pub spare_set : (cards : List ClaimCard) (i : ℕ) (x d : ClaimCard) → i < length cards → spare_slots (set cards i x) + (get_or cards i d).spare ≡ spare_slots cards + x.spare
-spare_set [] i x d h = absurd (omega arith)
-spare_set (card ∷ cards) zero x d h = omega arith
-spare_set (card ∷ cards) (suc i) x d h = omega (arith, spare_set cards i x d (omega arith))
-
 abbrev no_entries : ClaimCard
 no_entries = record { first = 0; last = 0; spare = 0 }
 
 no_spares : (n : ℕ) → spare_slots (replicate n no_entries) ≡ 0
-no_spares zero = refl
-no_spares (suc n) = omega (arith, no_spares n)
+no_spares n =
+    omega (
+      arith,
+      sum_by-le (λ card. card.spare) 0 (replicate n no_entries)
+          (λ i d within. omega (arith, length-replicate n no_entries, ap (λ x. x.spare) (get_or-replicate n i no_entries d (omega (arith, length-replicate n no_entries))))),
+    )
 
 -- with no page in use, no place and cleared cards, whatever the slots hold
 pub laid_empty : (pages : List PageCard) (slots : List NumberedEntry) (cards : List ClaimCard) (places : List ℕ) (n : ℕ) → pages ≡ [] → places ≡ [] → cards ≡ replicate n no_entries → Laid pages slots cards places
@@ -263,7 +258,7 @@ module _
         ]
 
     counted' : 16 * length pages' ≡ length places' + spare_slots cards'
-    counted' = omega (arith, g.balance, laid.counted, length_push places s, spare_set cards (e.claim - 1) card' (record { first = 0; last = 0; spare = 0 }) (omega arith))
+    counted' = omega (arith, g.balance, laid.counted, length_push places s, sum_by-set (λ card. card.spare) cards (e.claim - 1) card' (record { first = 0; last = 0; spare = 0 }) (omega arith))
 
     pub entries_more : entries_of slots' places' ≡ entries_of slots places ++ (e ∷ [])
     entries_more =

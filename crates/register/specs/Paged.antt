@@ -3,15 +3,14 @@ use Rattle.std.specs.Prelude.{ℕ, min, [], length}
 use Rattle.std.proofs.Common.{arith}
 use Rattle.std.proofs.lemmas.List.{length-map}
 use Rattle.register.specs.declared.paged.PagedRegister.{PagedRegister}
-use Rattle.register.specs.Bounded.{items, room}
 use Rattle.register.specs.Pages.{Laid, entries_of, paged_capacity, slot_at}
 use Rattle.register.specs.Registers.{Meaning, Sound}
 
 -- the entries are those at the places, in the order of their numbers
 abbrev pub paged_meaning : PagedRegister → Meaning
 paged_meaning r = record {
-  entries = entries_of r.slots.now (items r.places);
-  capacity = paged_capacity (room r.pages) (length r.slots.now) (length r.claims.now) (room r.places);
+  entries = entries_of r.slots.now r.places.items;
+  capacity = paged_capacity r.pages.room (length r.slots.now) (length r.claims.now) r.places.room;
   bound = length r.claims.now;
 }
 
@@ -24,7 +23,7 @@ new_paged page_cards slots claim_cards places = record {
 }
 
 -- the facts that a paged register keeps
-pub laid_of : (r : PagedRegister) → Laid (items r.pages) r.slots.now r.claims.now (items r.places)
+pub laid_of : (r : PagedRegister) → Laid r.pages.items r.slots.now r.claims.now r.places.items
 laid_of r = record {
   numbered = r.numbered;
   within = r.within;
@@ -40,6 +39,6 @@ pub paged_sound : (r : PagedRegister) → Sound (paged_meaning r)
 paged_sound r = record {
   few_entries = omega arith;
   few_claims = r.few;
-  room = omega (arith, length-map (items r.places) (λ s. (slot_at r.slots.now s).entry), r.spacious);
+  room = omega (arith, length-map r.places.items (λ s. (slot_at r.slots.now s).entry), r.spacious);
   claims = r.known;
 }

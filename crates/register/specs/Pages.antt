@@ -3,7 +3,7 @@
 -- Memory is cut into pages of 16 slots, and a page belongs to one claim. The entries of a claim fill its first page slot by
 -- slot, then the page to which that page's card links, and so on. A slot holds an entry and its number; a list of places
 -- tells the slot of each entry by number.
-use Rattle.std.specs.Prelude.{◌≡◌, ℕ, zero, suc, ◌+◌, ◌-◌, ◌*◌, ◌/◌, ◌%◌, ◌<◌, ◌≤◌, min, true, cond, List, [], ◌∷◌, ◌++◌, map, length, ◌==◌, nat_lt, slice_index, slice_index_or, slice_set, refl}
+use Rattle.std.specs.Prelude.{◌≡◌, ℕ, zero, suc, ◌+◌, ◌-◌, ◌*◌, ◌/◌, ◌%◌, ◌<◌, ◌≤◌, min, true, cond, List, [], ◌∷◌, ◌++◌, map, length, ◌==◌, nat_lt, slice_index, slice_index_or, slice_set, sum_by, refl}
 use Rattle.values.specs.declared.day.Day.{Day}
 use Rattle.register.specs.declared.entry.Content.TheVariants.{Void}
 use Rattle.register.specs.declared.entry.Entry.{Entry}
@@ -64,8 +64,7 @@ paged_capacity cards slots claims places = min (min (16 * pages_for cards slots 
 
 -- the free slots of all claims' last pages
 abbrev pub spare_slots : List ClaimCard → ℕ
-spare_slots [] = 0
-spare_slots (card ∷ cards) = card.spare + spare_slots cards
+spare_slots cards = sum_by (λ card. card.spare) cards
 
 -- the slots behind an entry in its page, none where there is no entry
 abbrev pub spare_after : List ℕ → ℕ → ℕ

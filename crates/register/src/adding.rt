@@ -1,4 +1,7 @@
 // What both registers ask of an entry that is added.
+//
+// The two refusals of `add` stand in each register: one function over `R: Register` would lead back to the impl that calls
+// it, which the checker does not cover.
 ghost use Rattle.std.specs.Prelude.{◌≡◌, if◌then◌else◌};
 ghost use Rattle.register.specs.Entries.{is_opening};
 ghost use Rattle.register.specs.Registers.{is_claim};
@@ -16,5 +19,5 @@ pub(crate) fn is_claim(bound: u32, claim: u32) -> bool
 pub(crate) fn openings_of(entry: Entry) -> u32
     ensures { result ≡ (if is_opening entry then 1 else 0) }
 {
-    if entry.is_opening() { 1 } else { 0 }
+    u32::from(entry.is_opening())
 }

@@ -1,7 +1,23 @@
 // A list of bounded length over lent memory.
-ghost use Rattle.std.specs.Prelude.{◌≡◌, ◌<◌, ◌≤◌, [], ◌∷◌, ◌++◌, length, if◌then◌else◌, MatchOption, nat_lt, slice_index_or, slice_set};
+ghost use Rattle.std.specs.Prelude.{◌≡◌, [], ◌∷◌, ◌++◌, length, if◌then◌else◌, nat_lt, slice_set};
 ghost use Rattle.std.specs.List.{slice_get};
-ghost use Rattle.register.specs.Bounded.{items, room};
+ghost use Rattle.std.specs.Result.{is_ok};
+
+use std::error::Error;
+use std::marker::Model;
+use std::{fmt, mem};
+
+// There is no memory for one item more.
+#[derive(Clone, Copy, PartialEq, Eq, Debug)]
+pub struct CapacityError;
+
+impl fmt::Display for CapacityError {
+    fn fmt<W: fmt::Write>(&self, f: &mut fmt::Formatter<W>) -> fmt::Result {
+        write!(f, "the list is full")
+    }
+}
+
+impl Error for CapacityError {}
 
 // The first `len` of the lent slots, in order; what lies behind them is free.
 #[derive(Drop)]
@@ -10,69 +26,77 @@ pub struct BoundedList<'a, T> {
     len: usize,
 }
 
+impl<'a, T> Model for BoundedList<'a, T> {
+    ghost use Rattle.std.specs.Prelude.{◌≤◌, length, take};
+    ghost use Rattle.register.specs.Bounded.{Bounded};
+
+    ghost Value = { Bounded T };
+
+    ghost view = { λ list. record { items = take list.len list.slots.now; room = length list.slots.now } };
+
+    ghost invariant = { λ list. list.len ≤ length list.slots.now };
+}
+
 impl<'a, T: Copy> BoundedList<'a, T> {
     // The empty list, whatever the memory holds.
     pub fn new(slots: &'a mut [T]) -> BoundedList<'a, T>
-        ensures items { items result ≡ [] }
-        ensures room { room result ≡ length slots.old }
+        ensures { result ≡ record { items = []; room = length slots.old } }
     {
         BoundedList { slots, len: 0 }
     }
 
     // How many items there are.
     pub fn len(&self) -> usize
-        ensures { result ≡ length (items self.now) }
+        ensures { result ≡ length self.now.items }
     {
-        self.len.min(self.slots.len())
+        self.len
     }
 
     // How many items there is memory for.
     pub fn room(&self) -> usize
-        ensures { result ≡ room self.now }
+        ensures { result ≡ self.now.room }
     {
         self.slots.len()
     }
 
+    // The items.
+    pub fn as_slice(&self) -> &[T]
+        ensures { result.now ≡ self.now.items }
+    {
+        &self.slots[..self.len]
+    }
+
     // The item at an index, none past the last.
     pub fn get(&self, index: usize) -> Option<T>
-        ensures value { result ≡ slice_get (items self.now) index }
-        ensures place { MatchOption result (length (items self.now) ≤ index) (λ x. (index < length (items self.now)) × (x ≡ slice_index_or (items self.now) index x)) }
+        ensures { result ≡ slice_get self.now.items index }
     {
-        if index < self.len() {
-            let slots: &[T] = &*self.slots;
-            Some(slots[index])
+        self.as_slice().get(index).copied()
+    }
+
+    // One item more at the end; refused, and nothing altered, where there is no memory for it.
+    pub fn push(&mut self, item: T) -> Result<(), CapacityError>
+        ensures answer { result ≡ (if nat_lt (length self.old.items) self.old.room then Ok tt else Err (record {})) }
+        ensures items { self.new.items ≡ (if is_ok result then self.old.items ++ (item ∷ []) else self.old.items) }
+        ensures room { self.new.room ≡ self.old.room }
+    {
+        if self.len == self.slots.len() {
+            return Err(CapacityError);
+        }
+        self.slots[self.len] = item;
+        self.len += 1;
+        Ok(())
+    }
+
+    // Another item in the place of the one at an index, which comes back; nothing is altered past the last.
+    pub fn put(&mut self, index: usize, item: T) -> Option<T>
+        ensures answer { result ≡ slice_get self.old.items index }
+        ensures items { self.new.items ≡ slice_set self.old.items index item }
+        ensures room { self.new.room ≡ self.old.room }
+    {
+        if index < self.len {
+            Some(mem::replace(&mut self.slots[index], item))
         } else {
             None
-        }
-    }
-
-    // One item more at the end; false, and nothing altered, where there is no memory for it.
-    pub fn push(&mut self, item: T) -> bool
-        ensures answer { result ≡ nat_lt (length (items self.old)) (room self.old) }
-        ensures items { items self.new ≡ (if result then items self.old ++ (item ∷ []) else items self.old) }
-        ensures room { room self.new ≡ room self.old }
-    {
-        let len = self.len();
-        if len < self.slots.len() {
-            self.slots[len] = item;
-            self.len = len + 1;
-            true
-        } else {
-            false
-        }
-    }
-
-    // Another item in the place of the one at an index; false, and nothing altered, past the last.
-    pub fn put(&mut self, index: usize, item: T) -> bool
-        ensures answer { result ≡ nat_lt index (length (items self.old)) }
-        ensures items { items self.new ≡ slice_set (items self.old) index item }
-        ensures room { room self.new ≡ room self.old }
-    {
-        if index < self.len() {
-            self.slots[index] = item;
-            true
-        } else {
-            false
         }
     }
 }

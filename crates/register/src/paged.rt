@@ -1,6 +1,5 @@
 // The paged register: a register that keeps the entries of a claim together.
 ghost use Rattle.std.specs.Prelude.{◌≡◌, ◌≤◌, length};
-ghost use Rattle.register.specs.Bounded.{items, room};
 ghost use Rattle.register.specs.Entries.{openings_in};
 ghost use Rattle.register.specs.Pages.{Numbered, Within, Linked, Lasts, Spares, Counted, Fit, Known, entries_of, paged_capacity};
 
@@ -14,6 +13,7 @@ mod methods;
 
 // Slots in pages of 16, each page of one claim; the cards of the pages in use; a card for each claim; and the slot of each
 // entry by its number.
+// No `impl Model`: a view would forget the ghost fields, from which the law `sound` of `Register` is proved of every value.
 #[derive(Drop)]
 pub struct PagedRegister<'a> {
     pages: BoundedList<'a, PageCard>,
@@ -21,15 +21,15 @@ pub struct PagedRegister<'a> {
     claims: &'a mut [ClaimCard],
     places: BoundedList<'a, u32>,
     opened: u32,
-    ghost numbered: { Numbered (items pages) slots.now claims.now (items places) },
-    ghost within: { Within (items pages) slots.now claims.now (items places) },
-    ghost linked: { Linked (items pages) slots.now claims.now (items places) },
-    ghost lasts: { Lasts (items pages) slots.now claims.now (items places) },
-    ghost spares: { Spares (items pages) slots.now claims.now (items places) },
-    ghost counted: { Counted (items pages) slots.now claims.now (items places) },
-    ghost fit: { Fit (items pages) slots.now claims.now (items places) },
-    ghost known: { Known (items pages) slots.now claims.now (items places) },
+    ghost numbered: { Numbered pages.items slots.now claims.now places.items },
+    ghost within: { Within pages.items slots.now claims.now places.items },
+    ghost linked: { Linked pages.items slots.now claims.now places.items },
+    ghost lasts: { Lasts pages.items slots.now claims.now places.items },
+    ghost spares: { Spares pages.items slots.now claims.now places.items },
+    ghost counted: { Counted pages.items slots.now claims.now places.items },
+    ghost fit: { Fit pages.items slots.now claims.now places.items },
+    ghost known: { Known pages.items slots.now claims.now places.items },
     ghost few: { length claims.now ≤ 8192 },
-    ghost spacious: { length (items places) ≤ paged_capacity (room pages) (length slots.now) (length claims.now) (room places) },
-    ghost openings: { opened ≡ openings_in (entries_of slots.now (items places)) },
+    ghost spacious: { length places.items ≤ paged_capacity pages.room (length slots.now) (length claims.now) places.room },
+    ghost openings: { opened ≡ openings_in (entries_of slots.now places.items) },
 }

@@ -9,28 +9,17 @@ impl Entry {
     pub fn is_opening(self) -> bool
         ensures { result ≡ is_opening self }
     {
-        match self.content {
-            Content::Opening(_) => true,
-            Content::Payment(_) => false,
-            Content::ReserveChange(_) => false,
-            Content::Correction(_) => false,
-            Content::Void(_) => false,
-            Content::Redating(_) => false,
-        }
+        matches!(self.content, Content::Opening(_))
     }
 
     // Whether it is a payment, a reserve change or a correction.
     pub fn is_movement(self) -> bool
         ensures { result ≡ is_movement self }
     {
-        match self.content {
-            Content::Opening(_) => false,
-            Content::Payment(_) => true,
-            Content::ReserveChange(_) => true,
-            Content::Correction(_) => true,
-            Content::Void(_) => false,
-            Content::Redating(_) => false,
-        }
+        matches!(
+            self.content,
+            Content::Payment(_) | Content::ReserveChange(_) | Content::Correction(_)
+        )
     }
 
     // The number of the movement that it corrects or voids.

@@ -1,5 +1,6 @@
 // Making a flat log, and its answers.
-ghost use Rattle.std.specs.Prelude.{◌≡◌, length};
+ghost use Rattle.std.specs.Prelude.{◌≡◌, length, ◌==◌};
+ghost use Rattle.std.specs.List.{position};
 ghost use Rattle.register.specs.Flat.{flat_meaning, flat_sound, new_flat};
 
 use super::FlatLog;
@@ -10,6 +11,13 @@ use crate::fault::AddFault;
 use crate::limits::{MOST_CLAIMS, MOST_ENTRIES};
 use crate::numbered::NumberedEntry;
 use crate::register::Register;
+
+// The index of the first entry of a claim.
+fn first_of_claim(entries: &[Entry], claim: u32) -> Option<usize>
+    ensures { result ≡ position (λ entry. entry.claim == claim) entries.now }
+{
+    entries.iter().position(|entry| entry.claim == claim)
+}
 
 impl<'a> FlatLog<'a> {
     // The empty log over lent slots, whatever they hold, for claims numbered up to a bound.
@@ -46,23 +54,16 @@ impl Register for FlatLog<'_> {
     }
 
     fn entry(&self, number: u32) -> Option<Entry> {
-        if number == 0 {
-            None
-        } else {
-            self.entries.get(number as usize - 1)
-        }
+        self.entries.get(number.checked_sub(1)? as usize)
     }
 
     fn next_of_claim(&self, claim: u32, after: u32) -> Option<NumberedEntry> {
-        let mut index = after as usize;
-        while let Some(entry) = self.entries.get(index) {
-            let number = index as u32 + 1;
-            if entry.claim == claim {
-                return Some(NumberedEntry { number, entry });
-            }
-            index += 1;
-        }
-        None
+        let later = self.entries.as_slice().get(after as usize..)?;
+        let index = first_of_claim(later, claim)?;
+        Some(NumberedEntry {
+            number: after + index as u32 + 1,
+            entry: later[index],
+        })
     }
 
     fn add(&mut self, entry: Entry) -> Result<u32, AddFault> {
@@ -74,7 +75,7 @@ impl Register for FlatLog<'_> {
             return Err(AddFault::Full);
         }
         self.opened += openings_of(entry);
-        self.entries.push(entry);
+        self.entries.push(entry).unwrap();
         Ok(len + 1)
     }
 }

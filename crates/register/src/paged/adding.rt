@@ -1,6 +1,5 @@
 // Where the next entry of a claim goes.
 ghost use Rattle.std.specs.Prelude.{◌≡◌, ◌+◌, ◌^◌, ◌<◌, length};
-ghost use Rattle.register.specs.Bounded.{items, room};
 ghost use Rattle.register.specs.Pages.{free_slot, pages_after, card_after};
 
 use crate::bounded::BoundedList;
@@ -16,18 +15,18 @@ pub(super) fn free_slot(
     card: ClaimCard,
     last_slot: usize,
 ) -> usize
-    requires free { card.spare ≡ 0 → length (items pages.old) < room pages.old }
-    requires few { length (items pages.old) < 2 ^ 32 }
+    requires free { card.spare ≡ 0 → length pages.old.items < pages.old.room }
+    requires few { length pages.old.items < 2 ^ 32 }
     requires within { last_slot + 1 < 2 ^ 64 }
-    ensures slot { result ≡ free_slot (items pages.old) card last_slot }
-    ensures pages { items pages.new ≡ pages_after (items pages.old) card last_slot }
-    ensures room { room pages.new ≡ room pages.old }
+    ensures slot { result ≡ free_slot pages.old.items card last_slot }
+    ensures pages { pages.new.items ≡ pages_after pages.old.items card last_slot }
+    ensures room { pages.new.room ≡ pages.old.room }
 {
     if card.spare > 0 {
         return last_slot + 1;
     }
     let page = pages.len();
-    pages.push(PageCard { next: 0 });
+    pages.push(PageCard::default()).unwrap();
     if card.last > 0 {
         pages.put(last_slot / PAGE_SLOTS, PageCard { next: page as u32 });
     }

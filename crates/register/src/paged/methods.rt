@@ -1,6 +1,5 @@
 // Making a paged register, and its answers.
 ghost use Rattle.std.specs.Prelude.{◌≡◌, ◌+◌, ◌*◌, ◌^◌, ◌<◌, true, length, if◌then◌else◌};
-ghost use Rattle.register.specs.Bounded.{items};
 ghost use Rattle.register.specs.Entries.{is_entry_of};
 ghost use Rattle.register.specs.Pages.{place_of, slot_at, card_of, next_slot};
 ghost use Rattle.register.specs.Registers.{is_claim};
@@ -30,11 +29,7 @@ impl<'a> PagedRegister<'a> {
     {
         let bound = claim_cards.len().min(MOST_CLAIMS as usize);
         let claims = &mut claim_cards[0..bound];
-        claims.fill(ClaimCard {
-            first: 0,
-            last: 0,
-            spare: 0,
-        });
+        claims.fill(ClaimCard::default());
         PagedRegister {
             pages: BoundedList::new(page_cards),
             slots,
@@ -46,13 +41,11 @@ impl<'a> PagedRegister<'a> {
 
     // The slot of the entry with a number; 0 where there is none.
     fn place_of(&self, number: u32) -> usize
-        ensures value { result ≡ place_of (items self.now.places) number }
+        ensures value { result ≡ place_of self.now.places.items number }
         ensures small { result < 2 ^ 32 }
     {
-        match self.places.get(number.saturating_sub(1) as usize) {
-            Some(place) => place as usize,
-            None => 0,
-        }
+        let place = self.places.get(number.saturating_sub(1) as usize);
+        place.unwrap_or(0) as usize
     }
 
     // What a slot holds.
@@ -75,16 +68,13 @@ impl<'a> PagedRegister<'a> {
     fn is_entry_of(&self, claim: u32, number: u32) -> bool
         ensures { result ≡ is_entry_of (paged_meaning self.now).entries claim number }
     {
-        match self.entry(number) {
-            Some(entry) => entry.claim == claim,
-            None => false,
-        }
+        self.entry(number).is_some_and(|entry| entry.claim == claim)
     }
 
     // Where to look for the claim's first entry after a number: right behind the entry with that number if it is one of the
     // claim's, else at the claim's start.
     fn start_slot(&self, card: ClaimCard, claim: u32, after: u32) -> usize
-        ensures { result ≡ (if is_entry_of (paged_meaning self.now).entries claim after then next_slot (items self.now.pages) (place_of (items self.now.places) after) else 16 * card.first) }
+        ensures { result ≡ (if is_entry_of (paged_meaning self.now).entries claim after then next_slot self.now.pages.items (place_of self.now.places.items after) else 16 * card.first) }
     {
         if self.is_entry_of(claim, after) {
             self.next_slot(self.place_of(after))
@@ -96,15 +86,16 @@ impl<'a> PagedRegister<'a> {
     // The slot after a slot: the next of its page, or the first of the page that follows.
     fn next_slot(&self, slot: usize) -> usize
         requires { slot + 1 < 2 ^ 64 }
-        ensures { result ≡ next_slot (items self.now.pages) slot }
+        ensures { result ≡ next_slot self.now.pages.items slot }
     {
         if slot % PAGE_SLOTS < PAGE_SLOTS - 1 {
             return slot + 1;
         }
-        match self.pages.get(slot / PAGE_SLOTS) {
-            Some(page) => PAGE_SLOTS * page.next as usize,
-            None => 0,
-        }
+        let page = self
+            .pages
+            .get(slot / PAGE_SLOTS)
+            .unwrap_or(PageCard::default());
+        PAGE_SLOTS * page.next as usize
     }
 }
 
@@ -135,13 +126,8 @@ impl Register for PagedRegister<'_> {
     }
 
     fn entry(&self, number: u32) -> Option<Entry> {
-        if number == 0 {
-            return None;
-        }
-        match self.places.get(number as usize - 1) {
-            Some(place) => Some(self.slot(place as usize).entry),
-            None => None,
-        }
+        let place = self.places.get(number.checked_sub(1)? as usize)?;
+        Some(self.slot(place as usize).entry)
     }
 
     fn next_of_claim(&self, claim: u32, after: u32) -> Option<NumberedEntry> {
@@ -152,6 +138,7 @@ impl Register for PagedRegister<'_> {
         if card.last <= after {
             return None;
         }
+        // a loop, since the links have no end of their own: the walk stops at the entry that it looks for
         let mut slot = self.start_slot(card, claim, after);
         let mut found = self.slot(slot);
         while found.number <= after {
@@ -183,7 +170,7 @@ impl Register for PagedRegister<'_> {
         let slot = free_slot(pages, card, last_slot);
         slots[slot] = NumberedEntry { number, entry };
         claims[entry.claim as usize - 1] = moved_on(card, used, number);
-        places.push(slot as u32);
+        places.push(slot as u32).unwrap();
         *opened += openings_of(entry);
         Ok(number)
     }

@@ -1,5 +1,4 @@
-use Rattle.std.proofs.Common.{length, sym, ap, rules}
-use Rattle.register.specs.Bounded.{items}
+use Rattle.std.proofs.Common.{length, replicate, sym, ap, ◌∙◌, rules}
 use Rattle.register.specs.Entries.{openings_in}
 use Rattle.register.specs.Pages.{entries_of}
 use Rattle.register.proofs.Laying.{laid_empty}
@@ -7,8 +6,8 @@ use Rattle.register.proofs.paged.PagedRegister.new.Goals as goal
 
 pub invariant_of-result : goal.invariant_of-result
 invariant_of-result c =
-    let l = laid_empty (items c.new.result) c.args.slots.now c.fill.new.self (items c.new-2.result) _ c.new.ensures.items c.new-2.ensures.items (c.fill.ensures.after (λ y same. same)) in
-    let none = c.new-2.ensures.items in
+    let none = ap (λ b. b.items) c.new-2.ensures in
+    let l = laid_empty c.new.result.items c.args.slots.now c.fill.new.self c.new-2.result.items _ (ap (λ b. b.items) c.new.ensures) none (c.fill.ensures.after (λ y same. same) ∙ ap (replicate _) (search rules)) in
     record {
       numbered = l.numbered;
       within = l.within;

@@ -1,6 +1,6 @@
 use Rattle.std.proofs.Common.{rules}
-use Rattle.std.proofs.lemmas.List.{get_or_past}
+use Rattle.std.proofs.lemmas.Option.{unwrap_or-slice_get}
 use Rattle.register.proofs.paged.PagedRegister.next_slot.Goals as goal
 
-pub returns-in-None : goal.returns-in-None
-returns-in-None c = search (rules, get_or_past)
+pub returns : goal.returns
+returns c = search (rules, unwrap_or-slice_get)

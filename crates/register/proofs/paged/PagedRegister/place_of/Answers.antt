@@ -1,6 +1,6 @@
 use Rattle.std.proofs.Common.{rules}
-use Rattle.std.proofs.lemmas.List.{get_or_past}
+use Rattle.std.proofs.lemmas.Option.{unwrap_or-slice_get}
 use Rattle.register.proofs.paged.PagedRegister.place_of.Goals as goal
 
-pub returns-in-None : goal.returns-in-None
-returns-in-None c = search (rules, get_or_past)
+pub returns-clause-value : goal.returns-clause-value
+returns-clause-value c = search (rules, unwrap_or-slice_get)

@@ -1,21 +1,20 @@
-use Rattle.std.proofs.Common.{sym, ◌∙◌}
-use Rattle.register.specs.Bounded.{items}
-use Rattle.register.proofs.Booked.{next_here, next_skip, next_past}
+use Rattle.std.proofs.Common.{◌≡◌, ℕ, ◌-◌, List, length, drop, slice_range, ap, ◌∙◌, arith}
+use Rattle.std.proofs.lemmas.List.{take_all, length-drop}
+use Rattle.register.specs.declared.entry.Entry.{Entry}
+use Rattle.register.proofs.Booked.{next_at, next_past}
 use Rattle.register.proofs.flat.methods.FlatLogRegister.next_of_claim.Goals as goal
 
-pub returns-then-entry-claim : goal.returns-then-entry-claim
-returns-then-entry-claim c =
-    let at = c.in-Some.ensures.place in
-    sym (next_here (items c.args.self.now.entries) c.args.claim c.loop-entry.index c.in-Some.entry at.0 at.1 c.if-entry-claim.true)
-    ∙ c.loop-entry.invariant
+-- the entries after a number
+later_is : (es slice later : List Entry) (after : ℕ) → slice ≡ es → later ≡ slice_range slice after (length slice) → later ≡ drop after es
+later_is es slice later after same is =
+    is ∙ take_all (length slice - after) (drop after slice) (omega (arith, length-drop after slice)) ∙ ap (drop after) same
 
-pub loop-entry-preserved : goal.loop-entry-preserved
-loop-entry-preserved c =
-    let at = c.in-Some.ensures.place in
-    sym (next_skip (items c.args.self.now.entries) c.args.claim c.loop-entry.index c.in-Some.entry at.0 at.1 c.if-entry-claim.false)
-    ∙ c.loop-entry.invariant
+pub returns-in_err-index : goal.returns-in_err-index
+returns-in_err-index c =
+    let later = later_is c.args.self.now.entries.items _ _ _ c.as_slice.ensures c.in_ok-later.ensures.lookup.0.2 in
+    c.from_residual-in_err-index.ensures ∙ next_past _ _ c.args.claim c.args.after later c.in_err-index.ensures
 
 pub returns : goal.returns
 returns c =
-    sym (next_past (items c.args.self.now.entries) c.args.claim c.loop-entry.index c.in_default.ensures.place)
-    ∙ c.loop-entry.invariant
+    let later = later_is c.args.self.now.entries.items _ _ _ c.as_slice.ensures c.in_ok-later.ensures.lookup.0.2 in
+    next_at _ _ c.args.claim c.args.after later c.in_ok-index.index c.index-later-index.result c.in_ok-index.ensures c.index-later-index.is

@@ -1,25 +1,23 @@
-use Rattle.std.proofs.Common.{◌≡◌, ℕ, ◌+◌, ◌-◌, ◌^◌, ◌<◌, true, List, [], ◌∷◌, ◌++◌, length, Ok, sym, ap, ◌∙◌, arith, rules}
+use Rattle.std.proofs.Common.{◌≡◌, ℕ, ◌+◌, ◌-◌, ◌<◌, true, List, [], ◌∷◌, ◌++◌, length, Ok, sym, ap, ◌∙◌, arith, rules}
 use Rattle.std.proofs.lemmas.List.{length-map, length_push, length-set}
-use Rattle.std.proofs.lemmas.Bool.{cond-true, cond-false, lt-ltb, ne_eqb}
-use Rattle.register.specs.declared.cards.ClaimCard.{ClaimCard}
+use Rattle.std.proofs.lemmas.Bool.{cond-true, cond-false, ne_eqb}
 use Rattle.register.specs.declared.entry.Entry.{Entry}
 use Rattle.register.specs.declared.paged.PagedRegister.{PagedRegister}
-use Rattle.register.specs.Bounded.{items, room}
 use Rattle.register.specs.Entries.{openings_in}
 use Rattle.register.specs.Paged.{paged_meaning}
-use Rattle.register.specs.Pages.{card_of, free_slot, paged_capacity, place_of, slot_at}
+use Rattle.register.specs.Pages.{paged_capacity, slot_at}
 use Rattle.register.specs.Registers.{Meaning, is_claim, add_answer, after_add}
-use Rattle.register.proofs.Booked.{openings_le, openings_push}
+use Rattle.register.proofs.Booked.{openings_le, openings_push, push_fits}
 use Rattle.register.proofs.Laying.{is_claim_lem}
 use Rattle.register.proofs.Kept.{few_pages, kept, page_there, slot_in}
 use Rattle.register.proofs.paged.methods.PagedRegisterRegister.add.Goals as goal
 
 module _ (r : PagedRegister) where
-  long : length (paged_meaning r).entries ≡ length (items r.places)
-  long = length-map (items r.places) (λ s. (slot_at r.slots.now s).entry)
+  long : length (paged_meaning r).entries ≡ length r.places.items
+  long = length-map r.places.items (λ s. (slot_at r.slots.now s).entry)
 
   -- where it is not full, an entry more fits
-  free : (len capacity : ℕ) → len ≡ length (paged_meaning r).entries → capacity ≡ (paged_meaning r).capacity → (len ≡ capacity → ⊥) → length (items r.places) < (paged_meaning r).capacity
+  free : (len capacity : ℕ) → len ≡ length (paged_meaning r).entries → capacity ≡ (paged_meaning r).capacity → (len ≡ capacity → ⊥) → length r.places.items < (paged_meaning r).capacity
   free len capacity a b other = omega (arith, long, r.spacious)
 
 same_capacity : {a b c d a' b' c' d' : ℕ} → a ≡ a' → b ≡ b' → c ≡ c' → d ≡ d' → paged_capacity a b c d ≡ paged_capacity a' b' c' d'
@@ -41,25 +39,19 @@ free_slot-slot-requires c =
       within = omega (arith, c.place_of-last_slot.ensures.small);
     }
 
--- the slot lies in memory, and its number is small
-slot_small : (r : PagedRegister) (e : Entry) (card : ClaimCard) (last_slot slot : ℕ) → is_claim (length r.claims.now) e.claim ≡ true → length (items r.places) < (paged_meaning r).capacity → card ≡ card_of r.claims.now e.claim → last_slot ≡ place_of (items r.places) card.last → slot ≡ free_slot (items r.pages) card last_slot → (slot < length r.slots.now) × (slot < 2 ^ 32)
-slot_small r e card last_slot slot is room card_is last_is slot_is =
-    let at = slot_in r e is room card card_is last_slot last_is in
-    (omega (arith, at.0), omega (arith, at.1))
-
 pub offset_bounds-slots-slot : goal.offset_bounds-slots-slot
 offset_bounds-slots-slot c =
     let r = c.args.self.now in
     let is : is_claim (length r.claims.now) c.args.entry.claim ≡ true = search rules in
     let room = free r _ _ c.len-len.ensures c.capacity.ensures c.if-len-capacity.false in
-    omega (arith, (slot_small r c.args.entry c.card-card.result c.place_of-last_slot.result c.free_slot-slot.result is room c.card-card.ensures c.place_of-last_slot.ensures.value c.free_slot-slot.ensures.slot).1)
+    omega (arith, slot_in r c.args.entry is room c.card-card.result c.card-card.ensures c.place_of-last_slot.result c.place_of-last_slot.ensures.value, c.free_slot-slot.ensures.slot)
 
 pub bounds-slots-slot : goal.bounds-slots-slot
 bounds-slots-slot c =
     let r = c.args.self.now in
     let is : is_claim (length r.claims.now) c.args.entry.claim ≡ true = search rules in
     let room = free r _ _ c.len-len.ensures c.capacity.ensures c.if-len-capacity.false in
-    (slot_small r c.args.entry c.card-card.result c.place_of-last_slot.result c.free_slot-slot.result is room c.card-card.ensures c.place_of-last_slot.ensures.value c.free_slot-slot.ensures.slot).0
+    omega (arith, slot_in r c.args.entry is room c.card-card.result c.card-card.ensures c.place_of-last_slot.result c.place_of-last_slot.ensures.value, c.free_slot-slot.ensures.slot)
 
 pub bounds-claims-entry : goal.bounds-claims-entry
 bounds-claims-entry c =
@@ -71,7 +63,7 @@ overflow_cast-slot c =
     let r = c.args.self.now in
     let is : is_claim (length r.claims.now) c.args.entry.claim ≡ true = search rules in
     let room = free r _ _ c.len-len.ensures c.capacity.ensures c.if-len-capacity.false in
-    omega (arith, (slot_small r c.args.entry c.card-card.result c.place_of-last_slot.result c.free_slot-slot.result is room c.card-card.ensures c.place_of-last_slot.ensures.value c.free_slot-slot.ensures.slot).1)
+    omega (arith, slot_in r c.args.entry is room c.card-card.result c.card-card.ensures c.place_of-last_slot.result c.place_of-last_slot.ensures.value, c.free_slot-slot.ensures.slot)
 
 pub overflow_add-opened : goal.overflow_add-opened
 overflow_add-opened c =
@@ -83,10 +75,10 @@ invariant_of-self c =
     let r = c.args.self.now in
     let is : is_claim (length r.claims.now) c.args.entry.claim ≡ true = search rules in
     let room = free r _ _ c.len-len.ensures c.capacity.ensures c.if-len-capacity.false in
-    let number : c.len-len.result + 1 ≡ length (items r.places) + 1 = omega (arith, c.len-len.ensures, long r) in
-    let pushed = c.push.ensures.items ∙ cond-true _ _ _ (c.push.ensures.answer ∙ lt-ltb _ _ (omega (arith, room))) in
+    let number : c.len-len.result + 1 ≡ length r.places.items + 1 = omega (arith, c.len-len.ensures, long r) in
+    let pushed = push_fits r.places.room r.places.items _ _ _ (omega (arith, room)) c.push.ensures.answer c.push.ensures.items in
     let k = kept r c.args.entry is room c.card-card.result c.card-card.ensures c.place_of-last_slot.result c.place_of-last_slot.ensures.value
-    (c.len-len.result + 1) c.len-used.result c.free_slot-slot.result (items c.free_slot-slot.new.pages) c.moved_on.result (items c.push.new.self)
+    (c.len-len.result + 1) c.len-used.result c.free_slot-slot.result c.free_slot-slot.new.pages.items c.moved_on.result c.push.new.self.items
     number c.len-used.ensures c.free_slot-slot.ensures.slot c.free_slot-slot.ensures.pages c.moved_on.ensures pushed in
     let l = k.0 in
     let claims = length-set r.claims.now (c.args.entry.claim - 1) c.moved_on.result in
@@ -101,7 +93,7 @@ invariant_of-self c =
       fit = l.fit;
       known = l.known;
       few = omega (arith, claims, r.few);
-      spacious = omega (arith, ap length pushed, length_push (items r.places) c.free_slot-slot.result, capacity, room);
+      spacious = omega (arith, ap length pushed, length_push r.places.items c.free_slot-slot.result, capacity, room);
       openings = omega (arith, more, r.openings, c.openings_of.ensures);
     }
 
@@ -119,10 +111,10 @@ returns c =
     let r = c.args.self.now in
     let is : is_claim (length r.claims.now) c.args.entry.claim ≡ true = search rules in
     let room = free r _ _ c.len-len.ensures c.capacity.ensures c.if-len-capacity.false in
-    let number : c.len-len.result + 1 ≡ length (items r.places) + 1 = omega (arith, c.len-len.ensures, long r) in
-    let pushed = c.push.ensures.items ∙ cond-true _ _ _ (c.push.ensures.answer ∙ lt-ltb _ _ (omega (arith, room))) in
+    let number : c.len-len.result + 1 ≡ length r.places.items + 1 = omega (arith, c.len-len.ensures, long r) in
+    let pushed = push_fits r.places.room r.places.items _ _ _ (omega (arith, room)) c.push.ensures.answer c.push.ensures.items in
     let k = kept r c.args.entry is room c.card-card.result c.card-card.ensures c.place_of-last_slot.result c.place_of-last_slot.ensures.value
-    (c.len-len.result + 1) c.len-used.result c.free_slot-slot.result (items c.free_slot-slot.new.pages) c.moved_on.result (items c.push.new.self)
+    (c.len-len.result + 1) c.len-used.result c.free_slot-slot.result c.free_slot-slot.new.pages.items c.moved_on.result c.push.new.self.items
     number c.len-used.ensures c.free_slot-slot.ensures.slot c.free_slot-slot.ensures.pages c.moved_on.ensures pushed in
     let claims = length-set r.claims.now (c.args.entry.claim - 1) c.moved_on.result in
     let capacity = same_capacity c.free_slot-slot.ensures.room (length-set r.slots.now c.free_slot-slot.result (record { number = c.len-len.result + 1; entry = c.args.entry })) claims c.push.ensures.room in
