@@ -16,7 +16,7 @@ use values::day::Day;
 
 // Whether the entry with a number was booked on or before a day.
 fn is_booked_by<R: Register>(register: &R, number: u32, day: Day) -> bool
-    ensures { result ≡ is_booked_at day (entry_in (R.Register.meaning register.now).entries number) }
+    ensures { result ≡ is_booked_at day (entry_in (R.meaning register.now).entries number) }
 {
     match register.entry(number) {
         Some(entry) => entry.booked.number() <= day.number(),
@@ -26,7 +26,7 @@ fn is_booked_by<R: Register>(register: &R, number: u32, day: Day) -> bool
 
 // How many entries were booked on or before a day.
 pub(crate) fn booked_by<R: Register>(register: &R, day: Day) -> u32
-    ensures { result ≡ booked_by day (R.Register.meaning register.now).entries }
+    ensures { result ≡ booked_by day (R.meaning register.now).entries }
 {
     let mut count = 0;
     for before in 0..register.len() {
@@ -46,10 +46,10 @@ fn add_part<R: Register, C: Cohort>(
     valued: Option<Day>,
     number: u32,
 )
-    requires sheet { length sheet.old ≡ sheet_length (C.Cohort.meaning cohort.now) }
-    requires tables { Tabled (R.Register.meaning register.now).bound (take tables.now.count (R.Register.meaning register.now).entries) tables.now }
+    requires sheet { length sheet.old ≡ sheet_length (C.meaning cohort.now) }
+    requires tables { Tabled (R.meaning register.now).bound (take tables.now.count (R.meaning register.now).entries) tables.now }
     requires number { number ≤ tables.now.count }
-    ensures { sheet.new ≡ added_all sheet.old (part_at (C.Cohort.meaning cohort.now) valued (take tables.now.count (R.Register.meaning register.now).entries) number (entry_in (take tables.now.count (R.Register.meaning register.now).entries) number)) }
+    ensures { sheet.new ≡ added_all sheet.old (part_at (C.meaning cohort.now) valued (take tables.now.count (R.meaning register.now).entries) number (entry_in (take tables.now.count (R.meaning register.now).entries) number)) }
 {
     let Some(entry) = entry_among(register, tables.count, number) else {
         return;
@@ -79,9 +79,9 @@ pub(crate) fn add_triangle<R: Register, C: Cohort>(
     tables: &Tables,
     valued: Option<Day>,
 )
-    requires sheet { length sheet.old ≡ sheet_length (C.Cohort.meaning cohort.now) }
-    requires tables { Tabled (R.Register.meaning register.now).bound (take tables.now.count (R.Register.meaning register.now).entries) tables.now }
-    ensures { sheet.new ≡ added_all sheet.old (triangle (C.Cohort.meaning cohort.now) valued (take tables.now.count (R.Register.meaning register.now).entries)) }
+    requires sheet { length sheet.old ≡ sheet_length (C.meaning cohort.now) }
+    requires tables { Tabled (R.meaning register.now).bound (take tables.now.count (R.meaning register.now).entries) tables.now }
+    ensures { sheet.new ≡ added_all sheet.old (triangle (C.meaning cohort.now) valued (take tables.now.count (R.meaning register.now).entries)) }
 {
     for before in 0..tables.count {
         add_part(register, cohort, sheet, tables, valued, before + 1);

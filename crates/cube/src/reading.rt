@@ -20,7 +20,7 @@ pub(crate) fn days_after(before: Option<ClaimDays>, entry: Entry) -> Option<Clai
 
 // The claim days in force: those of the claim's last opening or redating.
 pub fn claim_days_in_force<R: Register>(register: &R, claim: u32) -> Option<ClaimDays>
-    ensures { result ≡ claim_days_in (R.Register.meaning register.now).entries claim }
+    ensures { result ≡ claim_days_in (R.meaning register.now).entries claim }
 {
     let mut days = None;
     let mut after = 0;
@@ -43,7 +43,7 @@ fn names(entry: Entry, number: u32) -> bool
 
 // Whether an entry of the claim after the one with this number corrects or voids it.
 pub fn is_replaced<R: Register>(register: &R, claim: u32, number: u32) -> bool
-    ensures { result ≡ replaces (drop number (R.Register.meaning register.now).entries) claim number }
+    ensures { result ≡ replaces (drop number (R.meaning register.now).entries) claim number }
 {
     let mut after = number;
     while let Some(found) = register.next_of_claim(claim, after) {
@@ -57,7 +57,7 @@ pub fn is_replaced<R: Register>(register: &R, claim: u32, number: u32) -> bool
 
 // Whether the entry with a number is a movement that stands.
 pub fn stands<R: Register>(register: &R, number: u32) -> bool
-    ensures { result ≡ stands_in (R.Register.meaning register.now).entries number }
+    ensures { result ≡ stands_in (R.meaning register.now).entries number }
 {
     match register.entry(number) {
         Some(entry) => entry.is_movement() && !is_replaced(register, entry.claim, number),
@@ -67,7 +67,7 @@ pub fn stands<R: Register>(register: &R, number: u32) -> bool
 
 // The entry with a number, among the first `count` entries.
 pub(crate) fn entry_among<R: Register>(register: &R, count: u32, number: u32) -> Option<Entry>
-    ensures { result ≡ entry_in (take count (R.Register.meaning register.now).entries) number }
+    ensures { result ≡ entry_in (take count (R.meaning register.now).entries) number }
 {
     if number <= count {
         register.entry(number)
@@ -79,7 +79,7 @@ pub(crate) fn entry_among<R: Register>(register: &R, count: u32, number: u32) ->
 // Whether the entry with a number counts as a payment or as a reserve change, by the first `count` entries; a correction counts
 // as what it names.
 pub(crate) fn kind_among<R: Register>(register: &R, count: u32, number: u32) -> Option<MovementKind>
-    ensures { result ≡ kind_in (take count (R.Register.meaning register.now).entries) number }
+    ensures { result ≡ kind_in (take count (R.meaning register.now).entries) number }
 {
     let mut at = number;
     for step in 0..number {
@@ -100,7 +100,7 @@ pub(crate) fn kind_among<R: Register>(register: &R, count: u32, number: u32) -> 
 
 // Whether the entry with a number counts as a payment or as a reserve change.
 pub fn kind_of<R: Register>(register: &R, number: u32) -> Option<MovementKind>
-    ensures { result ≡ kind_in (R.Register.meaning register.now).entries number }
+    ensures { result ≡ kind_in (R.meaning register.now).entries number }
 {
     kind_among(register, register.len(), number)
 }

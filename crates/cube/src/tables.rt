@@ -20,7 +20,7 @@ pub(crate) struct Tables {
 
 // The number of the entry that an entry corrects or voids: the one that it names, if that is before it and of its claim.
 fn replaced_by<R: Register>(register: &R, before: u32, entry: Entry) -> Option<u32>
-    ensures { result ≡ replaced_next (take before (R.Register.meaning register.now).entries) entry }
+    ensures { result ≡ replaced_next (take before (R.meaning register.now).entries) entry }
 {
     let named = entry.named()?;
     let found = entry_among(register, before, named)?;
@@ -59,10 +59,10 @@ impl Tables {
 
     // Notes one entry more, after the first `before` entries.
     fn note<R: Register>(&mut self, register: &R, before: u32)
-        requires tables { Tabled (R.Register.meaning register.now).bound (take before (R.Register.meaning register.now).entries) self.old }
+        requires tables { Tabled (R.meaning register.now).bound (take before (R.meaning register.now).entries) self.old }
         requires before { before < self.old.count }
         requires number { before + 1 < 2 ^ 32 }
-        ensures tables { Tabled (R.Register.meaning register.now).bound (take (before + 1) (R.Register.meaning register.now).entries) self.new }
+        ensures tables { Tabled (R.meaning register.now).bound (take (before + 1) (R.meaning register.now).entries) self.new }
         ensures count { self.new.count ≡ self.old.count }
     {
         let Some(entry) = register.entry(before + 1) else {
@@ -80,7 +80,7 @@ impl Tables {
         register: &R,
         count: u32,
     ) -> Result<Tables, AllocError>
-        ensures tables { IfOk result (λ t. Tabled (R.Register.meaning register.now).bound (take count (R.Register.meaning register.now).entries) t) }
+        ensures tables { IfOk result (λ t. Tabled (R.meaning register.now).bound (take count (R.meaning register.now).entries) t) }
         ensures count { IfOk result (λ t. t.count ≡ count) }
     {
         let mut tables = Tables::new(heap, count, register.claim_bound())?;

@@ -56,8 +56,8 @@ pub(super) fn check_effective(
 
 // The movement with a number, if it stands.
 pub(super) fn standing_movement<R: Register>(register: &R, number: u32) -> Result<Entry, CallFault>
-    ensures verdict { result ≡ standing_movement (R.Register.meaning register.now).entries number }
-    ensures found { IfOk result (λ e. Some e ≡ entry_in (R.Register.meaning register.now).entries number) }
+    ensures verdict { result ≡ standing_movement (R.meaning register.now).entries number }
+    ensures found { IfOk result (λ e. Some e ≡ entry_in (R.meaning register.now).entries number) }
 {
     let Some(entry) = register.entry(number) else {
         return Err(CallFault::NoSuchEntry);
@@ -69,7 +69,7 @@ pub(super) fn standing_movement<R: Register>(register: &R, number: u32) -> Resul
 
 // Whether the last entry was booked after a day.
 fn booked_after<R: Register>(register: &R, day: Day) -> bool
-    ensures { result ≡ booked_after (entry_in (R.Register.meaning register.now).entries (length (R.Register.meaning register.now).entries)) day }
+    ensures { result ≡ booked_after (entry_in (R.meaning register.now).entries (length (R.meaning register.now).entries)) day }
 {
     match register.entry(register.len()) {
         Some(last) => is_after(last.booked, day),
@@ -79,7 +79,7 @@ fn booked_after<R: Register>(register: &R, day: Day) -> bool
 
 // Whether an entry is a movement that stands, with an effective day before the report day.
 fn is_earlier<R: Register>(register: &R, report: Day, found: NumberedEntry) -> bool
-    ensures { result ≡ earlier_movement (R.Register.meaning register.now).entries report found.number found.entry }
+    ensures { result ≡ earlier_movement (R.meaning register.now).entries report found.number found.entry }
 {
     let earlier = match terms_of(found.entry.content) {
         Some(terms) => is_after(report, terms.effective),
@@ -90,7 +90,7 @@ fn is_earlier<R: Register>(register: &R, report: Day, found: NumberedEntry) -> b
 
 // Whether a standing movement of the claim has an effective day before the report day.
 pub(super) fn moved_before<R: Register>(register: &R, claim: u32, report: Day) -> bool
-    ensures { result ≡ moved_before_from (R.Register.meaning register.now).entries claim report 0 (R.Register.meaning register.now).entries }
+    ensures { result ≡ moved_before_from (R.meaning register.now).entries claim report 0 (R.meaning register.now).entries }
 {
     let mut after = 0;
     while let Some(found) = register.next_of_claim(claim, after) {
@@ -105,8 +105,8 @@ pub(super) fn moved_before<R: Register>(register: &R, claim: u32, report: Day) -
 impl<R: Register, C: Cohort> Cube<R, C> {
     // The checks of every call with a booking day, by the length of the sheet that it is lent.
     pub(super) fn check_booking(&self, sheet: usize, booked: Day) -> Result<(), CallFault>
-        ensures verdict { result ≡ booking_checked (state_of R.Register.meaning C.Cohort.meaning self.now) sheet booked }
-        ensures passed { OnOk result ((sheet ≡ sheet_length (C.Cohort.meaning self.now.cohort)) × (length (R.Register.meaning self.now.register).entries ≡ (R.Register.meaning self.now.register).capacity → ⊥)) }
+        ensures verdict { result ≡ booking_checked (state_of R.meaning C.meaning self.now) sheet booked }
+        ensures passed { OnOk result ((sheet ≡ sheet_length (C.meaning self.now.cohort)) × (length (R.meaning self.now.register).entries ≡ (R.meaning self.now.register).capacity → ⊥)) }
     {
         refused_if(sheet != sheet_length(&self.cohort), CallFault::SheetLength)?;
         refused_if(

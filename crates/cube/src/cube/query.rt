@@ -22,7 +22,7 @@ impl<R: Register, C: Cohort> Cube<R, C> {
         valued: Day,
         answer: &mut [i64],
     ) -> Result<(), QueryFault>
-        ensures { Answered (state_of R.Register.meaning C.Cohort.meaning self.now) known valued result answer.old answer.new }
+        ensures { Answered (state_of R.meaning C.meaning self.now) known valued result answer.old answer.new }
     {
         if answer.len() != sheet_length(&self.cohort) {
             return Err(QueryFault::Refused(CallFault::SheetLength));

@@ -39,7 +39,7 @@ fn booked_answer(res: Result<u32, CallFault>) -> Answer
 impl<R: Register, C: Cohort> Cube<R, C> {
     // Drafts, and puts the ticket into the drawer, which has room for it before the call is made.
     fn serve_draft(&mut self, drawer: &mut Vec<Ticket>, number: u32) -> Result<Answer, AllocError>
-        ensures { (sheet : List ℤ) → Served (desk_of R.Register.meaning C.Cohort.meaning self.old sheet drawer.old.items) (Request.Draft number) result (desk_of R.Register.meaning C.Cohort.meaning self.new sheet drawer.new.items) }
+        ensures { (sheet : List ℤ) → Served (desk_of R.meaning C.meaning self.old sheet drawer.old.items) (Request.Draft number) result (desk_of R.meaning C.meaning self.new sheet drawer.new.items) }
     {
         drawer.reserve(1)?;
         match self.draft(number) {
@@ -53,7 +53,7 @@ impl<R: Register, C: Cohort> Cube<R, C> {
 
     // Drops the draft of the ticket at a place of the drawer.
     fn serve_drop(&mut self, drawer: &mut Vec<Ticket>, place: usize) -> Answer
-        ensures { (sheet : List ℤ) → Served (desk_of R.Register.meaning C.Cohort.meaning self.old sheet drawer.old.items) (Request.Drop place) (Ok result) (desk_of R.Register.meaning C.Cohort.meaning self.new sheet drawer.new.items) }
+        ensures { (sheet : List ℤ) → Served (desk_of R.meaning C.meaning self.old sheet drawer.old.items) (Request.Drop place) (Ok result) (desk_of R.meaning C.meaning self.new sheet drawer.new.items) }
     {
         if place >= drawer.len() {
             return Answer::NoTicket;
@@ -74,7 +74,7 @@ impl<R: Register, C: Cohort> Cube<R, C> {
         booked: Day,
         terms: Terms,
     ) -> Answer
-        ensures { Served (desk_of R.Register.meaning C.Cohort.meaning self.old sheet.old drawer.old.items) (Request.Post place booked terms) (Ok result) (desk_of R.Register.meaning C.Cohort.meaning self.new sheet.new drawer.new.items) }
+        ensures { Served (desk_of R.meaning C.meaning self.old sheet.old drawer.old.items) (Request.Post place booked terms) (Ok result) (desk_of R.meaning C.meaning self.new sheet.new drawer.new.items) }
     {
         if place >= drawer.len() {
             return Answer::NoTicket;
@@ -91,7 +91,7 @@ impl<R: Register, C: Cohort> Cube<R, C> {
 
     // Draws a triangle on a sheet of its own.
     fn serve_query(&self, heap: Global, known: Day, valued: Day) -> Result<Answer, AllocError>
-        ensures { IfOk result (λ a. told a ≡ answer_of (state_of R.Register.meaning C.Cohort.meaning self.now) (Call.Query (sheet_length (C.Cohort.meaning self.now.cohort)) known valued)) }
+        ensures { IfOk result (λ a. told a ≡ answer_of (state_of R.meaning C.meaning self.now) (Call.Query (sheet_length (C.meaning self.now.cohort)) known valued)) }
     {
         let mut cells = vec![in heap; 0i64; sheet_length(&self.cohort)]?;
         match self.query(heap, known, valued, cells.as_mut_slice()) {
@@ -109,7 +109,7 @@ impl<R: Register, C: Cohort> Cube<R, C> {
         drawer: &mut Vec<Ticket>,
         request: Request,
     ) -> Result<Answer, AllocError>
-        ensures { Served (desk_of R.Register.meaning C.Cohort.meaning self.old sheet.old drawer.old.items) request result (desk_of R.Register.meaning C.Cohort.meaning self.new sheet.new drawer.new.items) }
+        ensures { Served (desk_of R.meaning C.meaning self.old sheet.old drawer.old.items) request result (desk_of R.meaning C.meaning self.new sheet.new drawer.new.items) }
     {
         match request {
             Request::Open { booked, claim_days } => {
@@ -148,7 +148,7 @@ impl<R: Register, C: Cohort> Cube<R, C> {
         row: &[Request],
     ) -> Result<Vec<Answer>, Stopped>
         ensures whole { MatchResult result (λ answers. vec_len answers ≡ length row.now) (λ stopped. vec_len stopped.answers ≤ length row.now) }
-        ensures ran { MatchResult result (λ answers. Ran (desk_of R.Register.meaning C.Cohort.meaning self.old sheet.old drawer.old.items) row.now answers.items (desk_of R.Register.meaning C.Cohort.meaning self.new sheet.new drawer.new.items)) (λ stopped. Ran (desk_of R.Register.meaning C.Cohort.meaning self.old sheet.old drawer.old.items) row.now stopped.answers.items (desk_of R.Register.meaning C.Cohort.meaning self.new sheet.new drawer.new.items)) }
+        ensures ran { MatchResult result (λ answers. Ran (desk_of R.meaning C.meaning self.old sheet.old drawer.old.items) row.now answers.items (desk_of R.meaning C.meaning self.new sheet.new drawer.new.items)) (λ stopped. Ran (desk_of R.meaning C.meaning self.old sheet.old drawer.old.items) row.now stopped.answers.items (desk_of R.meaning C.meaning self.new sheet.new drawer.new.items)) }
     {
         let Ok(mut answers) = Vec::with_capacity(heap, row.len()) else {
             return Err(Stopped {
@@ -166,7 +166,7 @@ impl<R: Register, C: Cohort> Cube<R, C> {
 
     // Drops every ticket of a drawer, the last first, and so closes the draft that is open if one of them is its ticket.
     pub fn drop_all(&mut self, drawer: Vec<Ticket>)
-        ensures { state_of R.Register.meaning C.Cohort.meaning self.new ≡ dropped_all (state_of R.Register.meaning C.Cohort.meaning self.old) drawer.items }
+        ensures { state_of R.meaning C.meaning self.new ≡ dropped_all (state_of R.meaning C.meaning self.old) drawer.items }
     {
         let mut left = drawer;
         while let Some(ticket) = left.pop() {

@@ -1,7 +1,7 @@
 use Rattle.std.proofs.Common.{vec_items, refl, ap, ◌∙◌, arith}
 use Rattle.cube.specs.declared.request.Answer.TheVariants as answer
 use Rattle.cube.specs.Cubes.{desk_of}
-use Rattle.cube.specs.Model.{after_drop}
+use Rattle.cube.specs.Model.{State}
 use Rattle.cube.specs.Runs.{Told, told_of}
 use Rattle.cube.proofs.Desks.{drop_none, drop_served, ticket_at}
 use Rattle.cube.proofs.cube.Cube.serve_drop.Goals as goal
@@ -16,7 +16,7 @@ returns-in-Ok g c = λ sheet.
     let at = ticket_at (vec_items c.args.drawer.now) c.args.place c.remove-ticket.result (omega (arith, c.args.drawer.now.ok.0)) c.remove-ticket.ensures.value in
     drop_served d c.args.place c.remove-ticket.result at answer.Dropped
     (desk_of g.R.Register.meaning g.C.Cohort.meaning c.drop_draft.new.self sheet (vec_items c.remove-ticket.new.self))
-    (ap (told_of (λ _. Told.Dropped)) c.in-Ok.ensures.answer) (c.in-Ok.ensures.state ∙ ap (after_drop d.ledger.state) c.in-Ok.ensures.answer) refl c.remove-ticket.ensures.items
+    (ap (told_of (λ _. Told.Dropped)) c.in-Ok.ensures.answer) (ap (λ (s : State). record { state = s; sheet = sheet }) c.drop_draft.ensures.state) c.remove-ticket.ensures.items
 
 pub returns-in-Err : goal.returns-in-Err
 returns-in-Err g c = λ sheet.
@@ -24,4 +24,4 @@ returns-in-Err g c = λ sheet.
     let at = ticket_at (vec_items c.args.drawer.now) c.args.place c.remove-ticket.result (omega (arith, c.args.drawer.now.ok.0)) c.remove-ticket.ensures.value in
     drop_served d c.args.place c.remove-ticket.result at (answer.Refused c.in-Err.fault)
     (desk_of g.R.Register.meaning g.C.Cohort.meaning c.drop_draft.new.self sheet (vec_items c.remove-ticket.new.self))
-    (ap (told_of (λ _. Told.Dropped)) c.in-Err.ensures.answer) (c.in-Err.ensures.state ∙ ap (after_drop d.ledger.state) c.in-Err.ensures.answer) refl c.remove-ticket.ensures.items
+    (ap (told_of (λ _. Told.Dropped)) c.in-Err.ensures.answer) (ap (λ (s : State). record { state = s; sheet = sheet }) c.drop_draft.ensures.state) c.remove-ticket.ensures.items
