@@ -1,5 +1,5 @@
 -- Requests that name a ticket of the drawer. Assumes nothing.
-use Rattle.std.proofs.Common.{◌≡◌, ℕ, zero, suc, ◌+◌, ◌<◌, ◌≤◌, true, false, cond, List, [], ◌∷◌, ◌++◌, length, get_or, drop, ℤ, is_ok, Some, Ok, Err, Result, sym, refl, ap, ◌∙◌, arith}
+use Rattle.std.proofs.Common.{◌≡◌, ℕ, zero, suc, ◌+◌, ◌<◌, ◌≤◌, true, false, cond, List, [], ◌∷◌, ◌++◌, length, get_or, drop, is_ok, Some, Ok, Err, Result, sym, refl, ap, ◌∙◌, arith}
 use Rattle.std.proofs.lemmas.List.{append-nil, drop_all, take_all}
 use Rattle.std.proofs.lemmas.Option.{slice_get-get_or, slice_get_past}
 use Rattle.std.proofs.lemmas.Bool.{cond-true, cond-false}
@@ -11,7 +11,6 @@ use Rattle.register.specs.declared.entry.Entry.{Entry}
 use Rattle.cube.specs.declared.fault.CallFault.{CallFault}
 use Rattle.cube.specs.declared.request.Answer.{Answer}
 use Rattle.cube.specs.declared.request.Answer.TheVariants as answer
-use Rattle.cube.specs.declared.request.Request.{Request}
 use Rattle.cube.specs.declared.request.Request.TheVariants as request
 use Rattle.cube.specs.declared.ticket.Ticket.{Ticket}
 use Rattle.cube.specs.Calls.{Call, Ledger, next}

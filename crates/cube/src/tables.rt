@@ -10,7 +10,7 @@ use std::alloc::{AllocError, Global};
 use values::claim_days::ClaimDays;
 
 // For the first `count` entries: the claim days in force, by claim number, and whether a later entry corrects or voids the
-// entry, by entry number.
+// entry, by entry number. The numbers are dense from 1, so each map is a Vec.
 #[derive(Drop)]
 pub(crate) struct Tables {
     pub(crate) count: u32,
@@ -98,11 +98,11 @@ impl Tables {
         self.claim_days[claim as usize]
     }
 
-    // Whether the entry with a number is a movement that stands.
-    pub(crate) fn stands(&self, number: u32, entry: Entry) -> bool
+    // Whether a later entry corrects or voids the entry with a number.
+    pub(crate) fn is_replaced(&self, number: u32) -> bool
         requires { number < vec_len self.now.replaced }
-        ensures { result ≡ (is_movement entry && not (slice_index_or self.now.replaced.items number false)) }
+        ensures { result ≡ slice_index_or self.now.replaced.items number false }
     {
-        entry.is_movement() && !self.replaced[number as usize]
+        self.replaced[number as usize]
     }
 }

@@ -4,9 +4,9 @@ ghost use Rattle.cube.specs.Queries.{Answered};
 
 use super::Cube;
 use crate::fault::{CallFault, QueryFault};
-use crate::query::{add_triangle, booked_by};
+use crate::known_entries::KnownEntries;
+use crate::query::booked_by;
 use crate::sheet::sheet_length;
-use crate::tables::Tables;
 use register::register::Register;
 use std::alloc::Global;
 use values::cohort::Cohort;
@@ -28,12 +28,12 @@ impl<R: Register, C: Cohort> Cube<R, C> {
             return Err(QueryFault::Refused(CallFault::SheetLength));
         }
         let count = booked_by(&self.register, known);
-        let tables = match Tables::of(heap, &self.register, count) {
-            Ok(tables) => tables,
+        let entries = match KnownEntries::of(heap, &self.register, count) {
+            Ok(entries) => entries,
             Err(error) => return Err(QueryFault::OutOfMemory(error)),
         };
         answer.fill(0);
-        add_triangle(&self.register, &self.cohort, answer, &tables, Some(valued));
+        entries.add_triangle(&self.cohort, answer, Some(valued));
         Ok(())
     }
 }

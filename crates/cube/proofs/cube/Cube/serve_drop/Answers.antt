@@ -1,4 +1,4 @@
-use Rattle.std.proofs.Common.{vec_items, refl, ap, ◌∙◌, arith}
+use Rattle.std.proofs.Common.{vec_items, ap, arith}
 use Rattle.cube.specs.declared.request.Answer.TheVariants as answer
 use Rattle.cube.specs.Cubes.{desk_of}
 use Rattle.cube.specs.Model.{State}
