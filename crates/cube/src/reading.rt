@@ -1,5 +1,6 @@
 // What a register's entries say of a claim or a movement.
-ghost use Rattle.std.specs.Prelude.{◌≡◌, take, drop};
+ghost use Rattle.std.specs.Prelude.{◌≡◌, true, take, drop, OnSome};
+ghost use Rattle.register.specs.Registers.{is_claim};
 ghost use Rattle.register.specs.Entries.{claim_days_in, days_after, entry_in, kind_in, stands_in, replaces, is_number, named_by};
 
 use register::entry::{Content, Entry};
@@ -20,7 +21,8 @@ pub(crate) fn days_after(before: Option<ClaimDays>, entry: Entry) -> Option<Clai
 
 // The claim days in force: those of the claim's last opening or redating.
 pub fn claim_days_in_force<R: Register>(register: &R, claim: u32) -> Option<ClaimDays>
-    ensures { result ≡ claim_days_in (R.meaning register.now).entries claim }
+    ensures value { result ≡ claim_days_in (R.meaning register.now).entries claim }
+    ensures known { OnSome result (is_claim (R.meaning register.now).bound claim ≡ true) }
 {
     let mut days = None;
     let mut after = 0;

@@ -19,9 +19,6 @@ impl<R: Register, C: Cohort> Cube<R, C> {
         ensures sheet { sheet.new ≡ sheet_after (state_of R.meaning C.meaning self.old) (Ok entry) sheet.old }
     {
         add_brought(&self.register, &self.cohort, sheet, None, entry);
-        match self.register.add(entry) {
-            Ok(number) => number,
-            Err(_) => 0,
-        }
+        self.register.add(entry).unwrap()
     }
 }

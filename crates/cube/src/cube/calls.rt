@@ -83,9 +83,7 @@ impl<R: Register, C: Cohort> Cube<R, C> {
         ensures accepted { IfOk result (λ e. Bookable (state_of R.meaning C.meaning self.now) sheet e) }
     {
         self.check_booking(sheet, booked)?;
-        let Some(claim_days) = claim_days_in_force(&self.register, claim) else {
-            return Err(CallFault::NoSuchClaim);
-        };
+        let claim_days = claim_days_in_force(&self.register, claim).ok_or(CallFault::NoSuchClaim)?;
         check_effective(claim_days, terms.effective, booked)?;
         let content = movement_content(kind, terms);
         Ok(Entry {
@@ -148,9 +146,7 @@ impl<R: Register, C: Cohort> Cube<R, C> {
         ensures accepted { IfOk result (λ e. Bookable (state_of R.meaning C.meaning self.now) sheet e) }
     {
         self.check_booking(sheet, booked)?;
-        let Some(_) = claim_days_in_force(&self.register, claim) else {
-            return Err(CallFault::NoSuchClaim);
-        };
+        claim_days_in_force(&self.register, claim).ok_or(CallFault::NoSuchClaim)?;
         check_days(claim_days, booked)?;
         let moved = moved_before(&self.register, claim, claim_days.report);
         refused_if(moved, CallFault::MovementBeforeReport)?;

@@ -1,8 +1,10 @@
 // The checks that calls make.
-ghost use Rattle.std.specs.Prelude.{◌≡◌, length, IfOk, Some, OnOk};
+ghost use Rattle.std.specs.Prelude.{◌≡◌, true, length, IfOk, OnOk};
 ghost use Rattle.register.specs.Entries.{entry_in};
+ghost use Rattle.register.specs.Registers.{is_claim};
 ghost use Rattle.cube.specs.Cubes.{state_of};
 ghost use Rattle.cube.specs.Model.{booked_after, booking_checked, days_checked, earlier_movement, effective_checked, is_after, moved_before_from, on_draft, refused_if, standing_movement};
+ghost use Rattle.cube.specs.Queries.{query_checked};
 ghost use Rattle.cube.specs.Sheets.{sheet_length};
 
 use super::Cube;
@@ -57,11 +59,9 @@ pub(super) fn check_effective(
 // The movement with a number, if it stands.
 pub(super) fn standing_movement<R: Register>(register: &R, number: u32) -> Result<Entry, CallFault>
     ensures verdict { result ≡ standing_movement (R.meaning register.now).entries number }
-    ensures found { IfOk result (λ e. Some e ≡ entry_in (R.meaning register.now).entries number) }
+    ensures known { IfOk result (λ e. is_claim (R.meaning register.now).bound e.claim ≡ true) }
 {
-    let Some(entry) = register.entry(number) else {
-        return Err(CallFault::NoSuchEntry);
-    };
+    let entry = register.entry(number).ok_or(CallFault::NoSuchEntry)?;
     refused_if(!entry.is_movement(), CallFault::NotAMovement)?;
     refused_if(!stands(register, number), CallFault::NotStanding)?;
     Ok(entry)
@@ -103,12 +103,20 @@ pub(super) fn moved_before<R: Register>(register: &R, claim: u32, report: Day) -
 }
 
 impl<R: Register, C: Cohort> Cube<R, C> {
+    // A sheet is as long as the cohort asks.
+    pub(super) fn check_sheet(&self, sheet: usize) -> Result<(), CallFault>
+        ensures verdict { result ≡ query_checked (state_of R.meaning C.meaning self.now) sheet }
+        ensures fits { OnOk result (sheet ≡ sheet_length (C.meaning self.now.cohort)) }
+    {
+        refused_if(sheet != sheet_length(&self.cohort), CallFault::SheetLength)
+    }
+
     // The checks of every call with a booking day, by the length of the sheet that it is lent.
     pub(super) fn check_booking(&self, sheet: usize, booked: Day) -> Result<(), CallFault>
         ensures verdict { result ≡ booking_checked (state_of R.meaning C.meaning self.now) sheet booked }
         ensures passed { OnOk result ((sheet ≡ sheet_length (C.meaning self.now.cohort)) × (length (R.meaning self.now.register).entries ≡ (R.meaning self.now.register).capacity → ⊥)) }
     {
-        refused_if(sheet != sheet_length(&self.cohort), CallFault::SheetLength)?;
+        self.check_sheet(sheet)?;
         refused_if(
             booked_after(&self.register, booked),
             CallFault::BookedEarlier,

@@ -10,7 +10,6 @@ use super::Cube;
 use super::checks::{check_effective, refused_if, standing_movement};
 use crate::fault::CallFault;
 use crate::reading::claim_days_in_force;
-use crate::sheet::sheet_length;
 use crate::ticket::Ticket;
 use register::entry::{Content, Correction, Entry, Terms};
 use register::register::Register;
@@ -38,10 +37,7 @@ impl<R: Register, C: Cohort> Cube<R, C> {
         ensures new { OnOk result (New (ledger_of R.meaning C.meaning self.new sheet.new)) }
         ensures law { OnOk result (Lawful (ledger_of R.meaning C.meaning self.new sheet.new)) }
     {
-        refused_if(
-            sheet.len() != sheet_length(&self.cohort),
-            CallFault::SheetLength,
-        )?;
+        self.check_sheet(sheet.len())?;
         refused_if(self.register.len() != 0, CallFault::RegisterNotEmpty)?;
         let none = self.register.capacity() == 0 || self.register.claim_bound() == 0;
         refused_if(none, CallFault::NoRoom)?;
@@ -97,12 +93,13 @@ impl<R: Register, C: Cohort> Cube<R, C> {
     {
         self.check_booking(sheet, booked)?;
         refused_if(!self.is_open_draft(ticket), CallFault::NotTheDraft)?;
-        let Some(named) = self.register.entry(ticket.entry) else {
-            return Err(CallFault::NotTheDraft);
-        };
-        let Some(claim_days) = claim_days_in_force(&self.register, named.claim) else {
-            return Err(CallFault::NoSuchClaim);
-        };
+        let named = self
+            .register
+            .entry(ticket.entry)
+            .ok_or(CallFault::NotTheDraft)?;
+        let claim_days = claim_days_in_force(&self.register, named.claim).ok_or(
+            CallFault::NoSuchClaim,
+        )?;
         check_effective(claim_days, terms.effective, booked)?;
         let names = ticket.entry;
         let content = Content::Correction(Correction { names, terms });

@@ -11,11 +11,11 @@ returns g c =
     let es = (g.R.Register.meaning c.args.self.now.register).entries in
     let m = g.C.Cohort.meaning c.args.self.now.cohort in
     let valued = Some c.args.valued in
-    let cleared = c.fill.ensures.after (λ _ is. is) ∙ ap (λ n. replicate n (pos 0)) (c.if-answer-sheet_length.false ∙ c.sheet_length.ensures) in
-    let known = ap (λ (b : Meaning). b.entries) c.in-Ok.ensures ∙ ap (λ n. take n es) c.booked_by-count.ensures in
+    let cleared = c.fill.ensures.after (λ _ is. is) ∙ ap (λ n. replicate n (pos 0)) c.in_ok-check_sheet.ensures.fits in
+    let known = ap (λ (b : Meaning). b.entries) c.in_ok-entries.ensures ∙ ap (λ n. take n es) c.booked_by-count.ensures in
     let drawn =
     c.add_triangle.ensures
-    ∙ ap (λ cells. added_all cells (triangle m valued c.in-Ok.entries.entries)) cleared
+    ∙ ap (λ cells. added_all cells (triangle m valued c.in_ok-entries.entries.entries)) cleared
     ∙ ap (λ xs. added_all (replicate (sheet_length m) (pos 0)) (triangle m valued xs)) known
     ∙ drawn_cells (sheet_length m) (triangle m valued (known_on c.args.known es)) in
     (search rules, drawn)
