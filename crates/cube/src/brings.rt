@@ -74,10 +74,9 @@ fn add_movement_at<R: Register, C: Cohort>(
     ensures { sheet.new ≡ added_all sheet.old (movement_at (C.meaning cohort.now) placing.valued (R.meaning register.now).entries placing.claim_days placing.direction number) }
 {
     let kind = kind_of(register, number);
-    let terms = match register.entry(number) {
-        Some(entry) => terms_of(entry.content),
-        None => None,
-    };
+    let terms = register
+        .entry(number)
+        .and_then(|entry| terms_of(entry.content));
     add_terms(cohort, sheet, placing, kind, terms);
 }
 

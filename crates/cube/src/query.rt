@@ -10,10 +10,9 @@ use values::day::Day;
 fn is_booked_by<R: Register>(register: &R, number: u32, day: Day) -> bool
     ensures { result ≡ is_booked_at day (entry_in (R.meaning register.now).entries number) }
 {
-    match register.entry(number) {
-        Some(entry) => entry.booked.number() <= day.number(),
-        None => false,
-    }
+    register
+        .entry(number)
+        .is_some_and(|entry| entry.booked <= day)
 }
 
 // How many entries were booked on or before a day.

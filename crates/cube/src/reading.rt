@@ -13,8 +13,7 @@ pub(crate) fn days_after(before: Option<ClaimDays>, entry: Entry) -> Option<Clai
     ensures { result ≡ days_after before entry.content }
 {
     match entry.content {
-        Content::Opening(claim_days) => Some(claim_days),
-        Content::Redating(claim_days) => Some(claim_days),
+        Content::Opening(claim_days) | Content::Redating(claim_days) => Some(claim_days),
         _ => before,
     }
 }
@@ -37,10 +36,7 @@ pub fn claim_days_in_force<R: Register>(register: &R, claim: u32) -> Option<Clai
 fn names(entry: Entry, number: u32) -> bool
     ensures { result ≡ is_number (named_by entry) number }
 {
-    match entry.named() {
-        Some(named) => named == number,
-        None => false,
-    }
+    entry.named() == Some(number)
 }
 
 // Whether an entry of the claim after the one with this number corrects or voids it.
@@ -61,10 +57,8 @@ pub fn is_replaced<R: Register>(register: &R, claim: u32, number: u32) -> bool
 pub fn stands<R: Register>(register: &R, number: u32) -> bool
     ensures { result ≡ stands_in (R.meaning register.now).entries number }
 {
-    match register.entry(number) {
-        Some(entry) => entry.is_movement() && !is_replaced(register, entry.claim, number),
-        None => false,
-    }
+    register.entry(number).is_some_and(|entry| entry.is_movement()
+        && !is_replaced(register, entry.claim, number))
 }
 
 // The entry with a number, among the first `count` entries.
@@ -85,16 +79,12 @@ pub(crate) fn kind_among<R: Register>(register: &R, count: u32, number: u32) -> 
 {
     let mut at = number;
     for step in 0..number {
-        let Some(entry) = entry_among(register, count, at) else {
-            return None;
-        };
+        let entry = entry_among(register, count, at)?;
         match entry.content {
             Content::Payment(_) => return Some(MovementKind::Paid),
             Content::ReserveChange(_) => return Some(MovementKind::Reserved),
             Content::Correction(correction) => at = correction.names,
-            Content::Opening(_) => return None,
-            Content::Void(_) => return None,
-            Content::Redating(_) => return None,
+            Content::Opening(_) | Content::Void(_) | Content::Redating(_) => return None,
         }
     }
     None

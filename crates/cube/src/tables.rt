@@ -24,11 +24,7 @@ fn replaced_by<R: Register>(register: &R, before: u32, entry: Entry) -> Option<u
 {
     let named = entry.named()?;
     let found = entry_among(register, before, named)?;
-    if found.claim == entry.claim {
-        Some(named)
-    } else {
-        None
-    }
+    (found.claim == entry.claim).then_some(named)
 }
 
 impl Tables {

@@ -30,7 +30,7 @@ pub(super) fn refused_if(test: bool, fault: CallFault) -> Result<(), CallFault>
 pub(super) fn is_after(day: Day, other: Day) -> bool
     ensures { result ≡ is_after day other }
 {
-    other.number() < day.number()
+    other < day
 }
 
 // Claim days are in order, and reported by the booking day.
@@ -71,21 +71,17 @@ pub(super) fn standing_movement<R: Register>(register: &R, number: u32) -> Resul
 fn booked_after<R: Register>(register: &R, day: Day) -> bool
     ensures { result ≡ booked_after (entry_in (R.meaning register.now).entries (length (R.meaning register.now).entries)) day }
 {
-    match register.entry(register.len()) {
-        Some(last) => is_after(last.booked, day),
-        None => false,
-    }
+    register
+        .entry(register.len())
+        .is_some_and(|last| is_after(last.booked, day))
 }
 
 // Whether an entry is a movement that stands, with an effective day before the report day.
 fn is_earlier<R: Register>(register: &R, report: Day, found: NumberedEntry) -> bool
     ensures { result ≡ earlier_movement (R.meaning register.now).entries report found.number found.entry }
 {
-    let earlier = match terms_of(found.entry.content) {
-        Some(terms) => is_after(report, terms.effective),
-        None => false,
-    };
-    earlier && stands(register, found.number)
+    terms_of(found.entry.content).is_some_and(|terms| is_after(report, terms.effective))
+        && stands(register, found.number)
 }
 
 // Whether a standing movement of the claim has an effective day before the report day.
@@ -131,9 +127,6 @@ impl<R: Register, C: Cohort> Cube<R, C> {
     pub(super) fn is_drafted(&self, number: u32) -> bool
         ensures { result ≡ on_draft self.now.draft number }
     {
-        match self.draft {
-            Some(drafted) => drafted == number,
-            None => false,
-        }
+        self.draft == Some(number)
     }
 }

@@ -16,26 +16,6 @@ use std::alloc::{AllocError, Global};
 use values::cohort::Cohort;
 use values::day::Day;
 
-// The answer to an opening.
-fn opened_answer(res: Result<Opened, CallFault>) -> Answer
-    ensures { told result ≡ told_of (λ o. Told.Opened o.entry o.claim) res }
-{
-    match res {
-        Ok(opened) => Answer::Opened(opened),
-        Err(fault) => Answer::Refused(fault),
-    }
-}
-
-// The answer to another call that books.
-fn booked_answer(res: Result<u32, CallFault>) -> Answer
-    ensures { told result ≡ told_of Told.Booked res }
-{
-    match res {
-        Ok(number) => Answer::Booked(number),
-        Err(fault) => Answer::Refused(fault),
-    }
-}
-
 impl<R: Register, C: Cohort> Cube<R, C> {
     // Drafts, and puts the ticket into the drawer, which has room for it before the call is made.
     fn serve_draft(&mut self, drawer: &mut Vec<Ticket>, number: u32) -> Result<Answer, AllocError>
@@ -59,10 +39,8 @@ impl<R: Register, C: Cohort> Cube<R, C> {
             return Answer::NoTicket;
         }
         let ticket = drawer.remove(place);
-        match self.drop_draft(ticket) {
-            Ok(()) => Answer::Dropped,
-            Err(fault) => Answer::Refused(fault),
-        }
+        self.drop_draft(ticket)
+            .map_or_else(Answer::Refused, |()| Answer::Dropped)
     }
 
     // Posts with the ticket at a place of the drawer; a refusal puts the ticket back.
@@ -111,31 +89,38 @@ impl<R: Register, C: Cohort> Cube<R, C> {
     ) -> Result<Answer, AllocError>
         ensures { Served (desk_of R.meaning C.meaning self.old sheet.old drawer.old.items) request result (desk_of R.meaning C.meaning self.new sheet.new drawer.new.items) }
     {
-        match request {
-            Request::Open { booked, claim_days } => {
-                Ok(opened_answer(self.open(sheet, booked, claim_days)))
-            }
+        let answer = match request {
+            Request::Open { booked, claim_days } => self
+                .open(sheet, booked, claim_days)
+                .map_or_else(Answer::Refused, Answer::Opened),
             Request::Movement {
                 kind,
                 booked,
                 claim,
                 terms,
-            } => Ok(booked_answer(self.movement(sheet, kind, booked, claim, terms))),
-            Request::Void { booked, number } => Ok(booked_answer(self.void(sheet, booked, number))),
+            } => self
+                .movement(sheet, kind, booked, claim, terms)
+                .map_or_else(Answer::Refused, Answer::Booked),
+            Request::Void { booked, number } => self
+                .void(sheet, booked, number)
+                .map_or_else(Answer::Refused, Answer::Booked),
             Request::Redate {
                 booked,
                 claim,
                 claim_days,
-            } => Ok(booked_answer(self.redate(sheet, booked, claim, claim_days))),
-            Request::Draft { number } => self.serve_draft(drawer, number),
+            } => self
+                .redate(sheet, booked, claim, claim_days)
+                .map_or_else(Answer::Refused, Answer::Booked),
+            Request::Draft { number } => self.serve_draft(drawer, number)?,
             Request::Post {
                 place,
                 booked,
                 terms,
-            } => Ok(self.serve_post(sheet, drawer, place, booked, terms)),
-            Request::Drop { place } => Ok(self.serve_drop(drawer, place)),
-            Request::Query { known, valued } => self.serve_query(heap, known, valued),
-        }
+            } => self.serve_post(sheet, drawer, place, booked, terms),
+            Request::Drop { place } => self.serve_drop(drawer, place),
+            Request::Query { known, valued } => self.serve_query(heap, known, valued)?,
+        };
+        Ok(answer)
     }
 
     // Makes the calls of a row one after the other, and tells what each was answered. A draft puts its ticket at the end of the
