@@ -8,6 +8,7 @@ ghost use Rattle.cube.specs.Sheets.{added_all, sheet_length};
 use crate::reading::{claim_days_in_force, kind_of, stands};
 use crate::sheet::{add_claim, add_movement};
 use crate::terms::{Direction, in_time, terms_of};
+use register::entries::claim_entries;
 use register::entry::{Content, Correction, Entry, Terms};
 use register::kind::MovementKind;
 use register::numbered::NumberedEntry;
@@ -109,10 +110,8 @@ fn add_claim_part<R: Register, C: Cohort>(
     requires { length sheet.old ≡ sheet_length (C.meaning cohort.now) }
     ensures { sheet.new ≡ added_all sheet.old (claim_part (C.meaning cohort.now) placing.valued (R.meaning register.now).entries claim placing.claim_days placing.direction) }
 {
-    let mut after = 0;
-    while let Some(found) = register.next_of_claim(claim, after) {
+    for found in claim_entries(register, claim, 0) {
         add_standing_part(register, cohort, sheet, placing, found);
-        after = found.number;
     }
 }
 
