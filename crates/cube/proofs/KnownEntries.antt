@@ -1,6 +1,6 @@
 -- The first entries of a list, and one entry more. Assumes nothing.
-use Rattle.std.proofs.Common.{◌≡◌, ℕ, zero, suc, ◌+◌, ◌-◌, ◌<◌, ◌≤◌, true, eqb, List, [], ◌∷◌, ◌++◌, length, get_or, take, drop, filter, Some, None, IfSome, OnSome, Option, sym, refl, ap, ◌∙◌, inl, inr, arith}
-use Rattle.std.proofs.lemmas.List.{drop_more, length-take, length-take-le, take_more}
+use Rattle.std.proofs.Common.{◌≡◌, ℕ, zero, suc, ◌+◌, ◌-◌, ◌<◌, ◌≤◌, true, eqb, List, [], ◌∷◌, ◌++◌, length, get_or, take, drop, filter, Some, None, IfSome, Option, sym, refl, ap, ◌∙◌, inl, inr, arith}
+use Rattle.std.proofs.lemmas.List.{drop_more, length-take-le, take_more}
 use Rattle.std.proofs.lemmas.Option.{slice_get-get_or, slice_get_past as nth_past}
 use Rattle.std.proofs.lemmas.List.Sums.{length-filter}
 use Rattle.std.proofs.lemmas.Bool.{cases_Bool, cases_lt, cond-true, cond-false, eqb-false, ne_eqb}
@@ -42,16 +42,14 @@ entry_after count es n h =
 pub entry_past : (es : List Entry) (n : ℕ) → length es < n → entry_in es n ≡ None
 entry_past es n h = cond-false _ _ _ (ne_eqb n 0 (λ is. omega arith)) ∙ nth_past es (n - 1) (omega arith)
 
--- the number of an entry of the first ones is among theirs, and its claim is one that the register takes
-pub entry_first : (book : Meaning) (count n : ℕ) → claims_known book.bound book.entries ≡ true → (o : Option Entry) → o ≡ entry_in (take count book.entries) n → OnSome o (n ≤ length (take count book.entries)) × IfSome o (λ e. is_claim book.bound e.claim ≡ true)
-entry_first book count n known None is = (tt, tt)
-entry_first book count n known (Some e) is =
-    let es = book.entries in
-    let within : n ≤ length (take count es) = elim (cases_lt (length (take count es)) n) [ inl past ↦ absurd (some_not_none e (is ∙ entry_past (take count es) n past)) | inr within ↦ within ] in
-    (within, entry_known book.bound es n e known (is ∙ entry_within count es n (omega (arith, within, length-take count es))))
-  where
-    some_not_none : (e : Entry) → Some e ≡ None → ⊥
-    some_not_none e at = let no : ◌≡◌ {A = ℕ} 0 1 = cc in omega arith
+-- the claim of an entry of the first ones is one that the register takes
+pub claim_first : (book : Meaning) (count n : ℕ) → claims_known book.bound book.entries ≡ true → (o : Option Entry) → o ≡ entry_in (take count book.entries) n → IfSome o (λ e. is_claim book.bound e.claim ≡ true)
+claim_first book count n known None is = tt
+claim_first book count n known (Some e) is =
+    elim (cases_lt count n) [
+      | inl past ↦ absurd (let at : Some e ≡ None = is ∙ entry_after count book.entries n past in let no : ◌≡◌ {A = ℕ} 0 1 = cc in omega arith)
+      | inr within ↦ entry_known book.bound book.entries n e known (is ∙ entry_within count book.entries n within)
+    ]
 
 -- the entry numbered i + 1 is the last of the first i + 1
 pub record Next (es : List Entry) (i : ℕ) (e : Entry) : Type 0 where

@@ -3,13 +3,8 @@ use Rattle.std.specs.List.{insert}
 use Rattle.cube.specs.declared.ticket.Ticket.{Ticket}
 use Rattle.std.proofs.lemmas.Bool.{cond-true}
 use Rattle.cube.specs.Cubes.{desk_of}
-use Rattle.cube.proofs.Desks.{post_accepted, post_none, post_refused, ticket_at}
+use Rattle.cube.proofs.Desks.{post_accepted, post_refused, ticket_at}
 use Rattle.cube.proofs.cube.Cube.serve_post.Goals as goal
-
-pub returns-then-place-len : goal.returns-then-place-len
-returns-then-place-len g c =
-    let a = c.args in
-    post_none (desk_of g.R.Register.meaning g.C.Cohort.meaning a.self.now a.sheet.now (vec_items a.drawer.now)) a.place a.booked a.terms (omega (arith, a.drawer.now.ok.0))
 
 pub returns-in-Ok : goal.returns-in-Ok
 returns-in-Ok g c =
