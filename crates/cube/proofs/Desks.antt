@@ -57,13 +57,6 @@ module _ (d : Desk) (place : ℕ) where
     abbrev verdict : Ticket → Result Entry CallFault
     verdict ticket = post_entry d.ledger.state (length d.ledger.sheet) ticket booked terms
 
-    pub post_none : length d.drawer ≤ place → Served d (request.Post place booked terms) (Ok answer.NoTicket) d
-    post_none past =
-        let none = slice_get_past d.drawer place past in (
-          ap (λ o. answer_to d.ledger (option_map call o)) (sym none),
-          desk_same d (desk_next d (request.Post place booked terms)) (ap (λ o. ledger_next d.ledger (option_map call o)) (sym none)) (ap (λ o. spent_by d.drawer place o verdict) (sym none)),
-        )
-
     posted : (ticket : Ticket) → slice_get d.drawer place ≡ Some ticket → (a : Answer) (end : Desk) → told a ≡ told_of Told.Booked (number_told d.ledger.state (verdict ticket)) → end.ledger ≡ next d.ledger (call ticket) → end.drawer ≡ cond (is_ok (verdict ticket)) (remove d.drawer place) d.drawer → Served d (request.Post place booked terms) (Ok a) end
     posted ticket at a end is ledger drawer = (
       is ∙ ap (λ o. answer_to d.ledger (option_map call o)) (sym at),

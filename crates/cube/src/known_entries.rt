@@ -110,6 +110,7 @@ impl<'a, R: Register> KnownEntries<'a, R> {
     pub(crate) fn add_triangle<C: Cohort>(&self, cells: &mut Cells<'_, C>, valued: Option<Day>)
         ensures { Adds cells.old cells.new (triangle (C.meaning cells.old.cohort.now) valued self.now.entries) }
     {
+        // By number and not by the register's iterator: only the number's test shows an entry to be one of these.
         for before in 0..self.tables.count {
             self.add_part(cells, valued, before + 1);
         }

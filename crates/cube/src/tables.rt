@@ -80,6 +80,7 @@ impl Tables {
         ensures count { IfOk result (λ t. t.count ≡ count) }
     {
         let mut tables = Tables::new(heap, count, register.claim_bound())?;
+        // By number and not by the register's iterator: an entry is noted by how many come before it.
         for before in 0..count {
             tables.note(register, before);
         }
