@@ -1,6 +1,5 @@
 pub mod Claims
 pub mod MovementKinds
-pub mod Accepted
 pub mod KnownClaims
 pub mod KnownEntries
 pub mod Sums
@@ -12,6 +11,7 @@ pub mod Reached
 pub mod Cells
 pub mod InTime
 pub mod Joins
+pub mod Adding
 pub mod Bounds
 pub mod Known
 pub mod Rows

@@ -1,9 +1,11 @@
 pub mod Booking
 pub mod Brings
 pub mod Calls
+pub mod Cells
 pub mod Cubes
 pub mod Faults
 pub mod Figures
+pub mod Known
 pub mod Model
 pub mod Promises
 pub mod Queries

@@ -4,20 +4,17 @@ use Rattle.cube.specs.Runs.{Desk, desk_next, reply_to, told}
 use Rattle.cube.proofs.Requests.{desk_more, ran, replies_more}
 use Rattle.cube.proofs.cube.Cube.run.Goals as goal
 
-pub returns-in_default : goal.returns-in_default
-returns-in_default g c =
+pub returns-in_default-clause-ran : goal.returns-in_default-clause-ran
+returns-in_default-clause-ran g c =
     let before = desk_of g.R.Register.meaning g.C.Cohort.meaning c.args.self.now c.args.sheet.now (vec_items c.args.drawer.now) in
-    record { whole = omega arith; ran = ran before c.args.row.now (vec_items c.new.result) before 0 (ap length c.new.ensures.items) (ap (map told) c.new.ensures.items) refl }
+    ran before c.args.row.now (vec_items c.new.result) before 0 (ap length c.new.ensures.items) (ap (map told) c.new.ensures.items) refl
 
-pub returns-in-Err : goal.returns-in-Err
-returns-in-Err g c =
+pub returns-in-Err-clause-ran : goal.returns-in-Err-clause-ran
+returns-in-Err-clause-ran g c =
     let before = desk_of g.R.Register.meaning g.C.Cohort.meaning c.args.self.now c.args.sheet.now (vec_items c.args.drawer.now) in
     let l = c.loop-request in
-    record {
-      whole = omega (arith, l.invariant.2);
-      ran = ran before c.args.row.now (vec_items l.answers) (desk_of g.R.Register.meaning g.C.Cohort.meaning c.serve.new.self c.serve.new.sheet (vec_items c.serve.new.drawer)) l.request-index
-          (sym l.answers.ok.0 ∙ l.invariant.2) l.invariant.0 (c.in-Err.ensures ∙ l.invariant.1);
-    }
+    ran before c.args.row.now (vec_items l.answers) (desk_of g.R.Register.meaning g.C.Cohort.meaning c.serve.new.self c.serve.new.sheet (vec_items c.serve.new.drawer)) l.request-index
+    (sym l.answers.ok.0 ∙ l.invariant.2) l.invariant.0 (c.in-Err.ensures ∙ l.invariant.1)
 
 pub loop-request-preserved : goal.loop-request-preserved
 loop-request-preserved g c =
@@ -33,12 +30,9 @@ loop-request-preserved g c =
       omega (arith, c.push_reserved.ensures.capacity, l.invariant.3),
     )
 
-pub returns : goal.returns
-returns g c =
+pub returns-clause-ran : goal.returns-clause-ran
+returns-clause-ran g c =
     let before = desk_of g.R.Register.meaning g.C.Cohort.meaning c.args.self.now c.args.sheet.now (vec_items c.args.drawer.now) in
     let l = c.loop-request in
-    record {
-      whole = omega (arith, l.invariant.2);
-      ran = ran before c.args.row.now (vec_items l.answers) (desk_of g.R.Register.meaning g.C.Cohort.meaning l.self l.sheet (vec_items l.drawer)) l.request-index
-          (sym l.answers.ok.0 ∙ l.invariant.2) l.invariant.0 l.invariant.1;
-    }
+    ran before c.args.row.now (vec_items l.answers) (desk_of g.R.Register.meaning g.C.Cohort.meaning l.self l.sheet (vec_items l.drawer)) l.request-index
+    (sym l.answers.ok.0 ∙ l.invariant.2) l.invariant.0 l.invariant.1
