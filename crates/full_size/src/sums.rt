@@ -28,12 +28,9 @@ fn cents(entry: Entry) -> i64
     ensures { result ≡ cents_of entry }
 {
     match entry.content {
-        Content::Payment(payment) => payment.amount.cents(),
-        Content::ReserveChange(change) => change.amount.cents(),
-        Content::Correction(correction) => correction.amount.cents(),
-        Content::Opening(_) => 0,
-        Content::Void(_) => 0,
-        Content::Redating(_) => 0,
+        Content::Payment(terms) | Content::ReserveChange(terms) => terms.amount.cents(),
+        Content::Correction(correction) => correction.terms.amount.cents(),
+        Content::Opening(_) | Content::Void(_) | Content::Redating(_) => 0,
     }
 }
 
