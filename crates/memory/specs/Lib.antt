@@ -1,0 +1,4 @@
+pub mod Empty
+pub mod Flat
+pub mod Paged
+pub mod Pages
