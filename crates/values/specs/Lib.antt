@@ -7,3 +7,4 @@ pub mod Making
 pub mod Periods
 pub mod PeriodCohorts
 pub mod PeriodSound
+pub mod Texts

@@ -32,7 +32,6 @@ impl ClaimDays {
     pub fn in_order(self) -> bool
         ensures { result ≡ in_order self }
     {
-        self.inception.number() <= self.occurrence.number()
-            && self.occurrence.number() <= self.report.number()
+        self.inception <= self.occurrence && self.occurrence <= self.report
     }
 }

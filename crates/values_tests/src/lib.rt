@@ -8,24 +8,13 @@ mod tests {
     use values::claim_days::ClaimDays;
     use values::cohort::{Cohort, LabelledCohort};
     use values::day::Day;
-    use values::fault::CohortFault;
+    use values::fault::{CohortFault, ValueFault};
     use values::period::{Anchor, PeriodCohort};
     use values::place::Place;
 
-    // The refusal number for a day, 0 where it is one.
-    fn day_fault(number: u64) -> u32 {
-        match Day::new(number) {
-            Ok(_) => 0,
-            Err(fault) => fault.number(),
-        }
-    }
-
-    // The refusal number for an amount, 0 where it is one.
-    fn amount_fault(cents: i64) -> u32 {
-        match Amount::new(cents) {
-            Ok(_) => 0,
-            Err(fault) => fault.number(),
-        }
+    // The refusal number for a value, 0 where it is one.
+    fn fault_number<T: Drop>(made: Result<T, ValueFault>) -> u32 {
+        made.map_or_else(|fault| fault.number(), |_| 0)
     }
 
     // Numbers on both sides of each bound of the calendar.
@@ -55,7 +44,7 @@ mod tests {
             (18_446_744_073_709_551_615, 1),
         ];
         for (number, fault) in table {
-            assert_eq!(rt; day_fault(number), fault, "day {number}");
+            assert_eq!(rt; fault_number(Day::new(number)), fault, "day {number}");
         }
     }
 
@@ -103,9 +92,28 @@ mod tests {
             (i64::MIN, 2),
         ];
         for (cents, fault) in table {
-            assert_eq!(rt; amount_fault(cents), fault, "amount {cents}");
+            assert_eq!(rt; fault_number(Amount::new(cents)), fault, "amount {cents}");
         }
         assert_eq!(rt; Amount::new(-8_000)?.cents(), -8_000);
+        Ok(())
+    }
+
+    // A day as year, month and day of the month, and a fault in words.
+    #[test]
+    fn texts(rt: HostRuntime) -> Result<(), Fail> {
+        let heap = rt.alloc();
+        let table = [
+            (20_210_415, "2021-04-15"),
+            (19_000_101, "1900-01-01"),
+            (21_991_231, "2199-12-31"),
+        ];
+        for (number, text) in table {
+            assert_eq!(rt; Day::new(number)?.to_string(heap)?.as_str(), text);
+        }
+        let day = ValueFault::NotADay.to_string(heap)?;
+        assert_eq!(rt; day.as_str(), "no day of the calendar from 1900 to 2199");
+        let rows = CohortFault::Rows.to_string(heap)?;
+        assert_eq!(rt; rows.as_str(), "there are 1 to 40 rows");
         Ok(())
     }
 
@@ -139,10 +147,7 @@ mod tests {
         rows: u32,
         columns: u32,
     ) -> Option<CohortFault> {
-        match PeriodCohort::new(Anchor::Report, months, year, month, rows, columns) {
-            Ok(_) => None,
-            Err(fault) => Some(fault),
-        }
+        PeriodCohort::new(Anchor::Report, months, year, month, rows, columns).err()
     }
 
     // Both sides of each bound of a cohort's settings.

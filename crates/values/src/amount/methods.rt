@@ -7,16 +7,17 @@ use super::Amount;
 use crate::fault::ValueFault;
 
 // The largest amount, either way: a thousand million in the currency of the book.
-const LARGEST_CENTS: i64 = 100_000_000_000;
+const LARGEST_CENTS: u64 = 100_000_000_000;
 
 fn is_amount(cents: i64) -> bool
     ensures { result ≡ is_amount cents }
 {
-    cents != 0 && -LARGEST_CENTS <= cents && cents <= LARGEST_CENTS
+    (1..=LARGEST_CENTS).contains(&cents.unsigned_abs())
 }
 
 impl Amount {
     // The amount of this many cents, or the fault that it is none.
+    // `new` and no TryFrom: under that trait each literal number would have to name its type.
     pub fn new(cents: i64) -> Result<Amount, ValueFault>
         ensures { result ≡ amount_of cents }
     {

@@ -1,7 +1,8 @@
 // Making a day, and what it tells.
-ghost use Rattle.std.specs.Prelude.{◌≡◌, ◌/◌, ◌%◌};
+ghost use Rattle.std.specs.Prelude.{◌≡◌, ◌/◌, ◌%◌, Some};
 ghost use Rattle.values.specs.Calendar.{leap_year, month_length, is_day, month_number};
 ghost use Rattle.values.specs.Making.{day_of};
+ghost use Rattle.values.specs.Texts.{day_text};
 
 use super::Day;
 use crate::fault::ValueFault;
@@ -33,16 +34,14 @@ fn is_day(number: u64) -> bool
     let year = number / 10_000;
     let month = number / 100 % 100;
     let day = number % 100;
-    FIRST_YEAR <= year
-        && year <= LAST_YEAR
-        && 1 <= month
-        && month <= 12
-        && 1 <= day
-        && day <= month_length(year, month)
+    (FIRST_YEAR..=LAST_YEAR).contains(&year)
+        && (1..=12).contains(&month)
+        && (1..=month_length(year, month)).contains(&day)
 }
 
 impl Day {
     // The day with this number, or the fault that it is none.
+    // `new` and no TryFrom: under that trait each literal number would have to name its type.
     pub fn new(number: u64) -> Result<Day, ValueFault>
         ensures { result ≡ day_of number }
     {
@@ -72,6 +71,8 @@ impl Day {
 
 // Year, month and day of the month: 2021-04-15.
 impl fmt::Display for Day {
+    ghost output = { λ day. Some (day_text day) };
+
     fn fmt<W: fmt::Write>(&self, f: &mut fmt::Formatter<W>) -> fmt::Result {
         let year = self.number / 10_000;
         let month = self.number / 100 % 100;

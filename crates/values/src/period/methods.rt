@@ -1,5 +1,5 @@
 // Making a period cohort, its placing and its labels.
-ghost use Rattle.std.specs.Prelude.{◌≡◌, ◌<◌, IfSome};
+ghost use Rattle.std.specs.Prelude.{◌≡◌, ◌<◌, true, false, IfSome, MatchResult};
 ghost use Rattle.values.specs.Calendar.{between};
 ghost use Rattle.values.specs.PeriodCohorts.{anchor_day, period_cohort_of, period_meaning, period_label};
 ghost use Rattle.values.specs.PeriodSound.{period_sound};
@@ -37,10 +37,15 @@ fn is_period(months: u32) -> bool
     matches!(months, 1 | 3 | 6 | 12)
 }
 
-fn in_range(low: u32, high: u32, n: u32) -> bool
-    ensures { result ≡ between low high n }
+// The fault, where a setting is out of its range.
+fn check_range(low: u32, high: u32, setting: u32, fault: CohortFault) -> Result<(), CohortFault>
+    ensures { MatchResult result (λ _. between low high setting ≡ true) (λ e. (e ≡ fault) × (between low high setting ≡ false)) }
 {
-    low <= n && n <= high
+    if (low..=high).contains(&setting) {
+        Ok(())
+    } else {
+        Err(fault)
+    }
 }
 
 // The period in which a month lies, counted from the one that begins with `first`, if it is among the first `bound`.
@@ -50,12 +55,8 @@ fn period_index(bound: u32, months: u32, first: u32, month: u32) -> Option<u32>
     ensures within { IfSome result (λ n. n < bound) }
 {
     let distance = i64::from(month) - i64::from(first);
-    let index = distance.div_euclid(i64::from(months));
-    if 0 <= index && index < i64::from(bound) {
-        Some(index as u32)
-    } else {
-        None
-    }
+    let index = u32::try_from(distance.div_euclid(i64::from(months))).ok()?;
+    (index < bound).then_some(index)
 }
 
 impl PeriodCohort {
@@ -74,18 +75,10 @@ impl PeriodCohort {
         if !is_period(months) {
             return Err(CohortFault::PeriodLength);
         }
-        if !in_range(1900, 2199, year) {
-            return Err(CohortFault::BaseYear);
-        }
-        if !in_range(1, 12, month) {
-            return Err(CohortFault::BaseMonth);
-        }
-        if !in_range(1, MOST_PERIODS, rows) {
-            return Err(CohortFault::Rows);
-        }
-        if !in_range(1, MOST_PERIODS, columns) {
-            return Err(CohortFault::Columns);
-        }
+        check_range(1900, 2199, year, CohortFault::BaseYear)?;
+        check_range(1, 12, month, CohortFault::BaseMonth)?;
+        check_range(1, MOST_PERIODS, rows, CohortFault::Rows)?;
+        check_range(1, MOST_PERIODS, columns, CohortFault::Columns)?;
         let base = 12 * year + month - 1;
         if LAST_MONTH < base + months * (rows + columns) {
             return Err(CohortFault::Span);
