@@ -1,4 +1,7 @@
 // Claim days in words.
+ghost use Rattle.std.specs.Prelude.{Some};
+ghost use Rattle.wording.specs.Days.{days_text};
+
 use std::fmt;
 use values::claim_days::ClaimDays;
 
@@ -7,6 +10,8 @@ use values::claim_days::ClaimDays;
 pub struct DaysInWords(pub ClaimDays);
 
 impl fmt::Display for DaysInWords {
+    ghost output = { λ days. Some (days_text days.0) };
+
     fn fmt<W: fmt::Write>(&self, f: &mut fmt::Formatter<W>) -> fmt::Result {
         let ClaimDays {
             inception,
