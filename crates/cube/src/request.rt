@@ -46,7 +46,7 @@ pub enum Request {
 }
 
 // What a request was answered.
-#[derive(Drop)]
+#[derive(PartialEq, Debug, Drop)]
 pub enum Answer {
     // a claim was opened
     Opened(Opened),
