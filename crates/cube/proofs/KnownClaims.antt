@@ -1,5 +1,5 @@
 -- A claim that a register's entries speak of is one that it takes. Assumes nothing.
-use Rattle.std.proofs.Common.{◌≡◌, ℕ, zero, suc, ◌+◌, ◌-◌, ◌<◌, true, eqb, leb, List, [], ◌∷◌, Some, None, sym, ap, ◌∙◌, inl, inr, arith}
+use Rattle.std.proofs.Common.{◌≡◌, ℕ, zero, suc, ◌+◌, ◌-◌, ◌<◌, true, eqb, leb, List, [], ◌∷◌, Some, None, OnSome, Option, sym, ap, ◌∙◌, inl, inr, arith}
 use Rattle.std.proofs.lemmas.Bool.{and_parts, cases_Bool, cond-true, cond-false, eqb-true, leb-true}
 use Rattle.std.specs.List.{slice_get}
 use Rattle.values.specs.declared.claim_days.ClaimDays.{ClaimDays}
@@ -18,8 +18,9 @@ module _ (bound : ℕ) where
       ]
 
   -- a claim with claim days in force
-  pub days_known : (es : List Entry) (claim : ℕ) (days : ClaimDays) → claims_known bound es ≡ true → Some days ≡ claim_days_in es claim → is_claim bound claim ≡ true
-  days_known es claim days known is = days_from_lem es claim days known (sym is)
+  pub days_known : (es : List Entry) (claim : ℕ) (days : Option ClaimDays) → claims_known bound es ≡ true → days ≡ claim_days_in es claim → OnSome days (is_claim bound claim ≡ true)
+  days_known es claim None known is = tt
+  days_known es claim (Some days) known is = days_from_lem es claim days known (sym is)
 
   nth_known : (es : List Entry) (i : ℕ) (e : Entry) → claims_known bound es ≡ true → slice_get es i ≡ Some e → is_claim bound e.claim ≡ true
   nth_known [] i e known is = absurd (let no : ◌≡◌ {A = ℕ} 0 1 = cc in omega arith)

@@ -1,14 +1,16 @@
 -- The first entries of a list, and one entry more. Assumes nothing.
-use Rattle.std.proofs.Common.{◌≡◌, ℕ, zero, suc, ◌+◌, ◌-◌, ◌<◌, ◌≤◌, cond, eqb, List, [], ◌∷◌, ◌++◌, length, get_or, take, drop, Some, None, Option, sym, refl, ap, ◌∙◌, inl, inr, arith}
-use Rattle.std.proofs.lemmas.List.{drop_more, length-take-le, take_all, take_more}
+use Rattle.std.proofs.Common.{◌≡◌, ℕ, zero, suc, ◌+◌, ◌-◌, ◌<◌, ◌≤◌, true, cond, eqb, List, [], ◌∷◌, ◌++◌, length, get_or, take, drop, Some, None, IfSome, OnSome, Option, sym, refl, ap, ◌∙◌, inl, inr, arith}
+use Rattle.std.proofs.lemmas.List.{drop_more, length-take, length-take-le, take_all, take_more}
 use Rattle.std.proofs.lemmas.Option.{slice_get-get_or, slice_get_past as nth_past}
 use Rattle.std.proofs.lemmas.List.Sums.{sum_by_push}
 use Rattle.std.proofs.lemmas.Bool.{cases_Bool, cases_lt, cond-true, cond-false, eqb-false, ne_eqb}
 use Rattle.std.specs.List.{slice_get}
 use Rattle.values.specs.declared.day.Day.{Day}
 use Rattle.register.specs.Entries.{entry_in}
+use Rattle.register.specs.Registers.{Meaning, claims_known, is_claim}
 use Rattle.register.specs.declared.entry.Entry.{Entry}
 use Rattle.cube.specs.Queries.{booked_by, is_booked_at, is_booked_by}
+use Rattle.cube.proofs.KnownClaims.{entry_known}
 
 nth_within : (count : ℕ) (es : List Entry) (i : ℕ) → i < count → slice_get (take count es) i ≡ slice_get es i
 nth_within zero es i h = absurd (omega arith)
@@ -39,6 +41,17 @@ entry_after count es n h =
 
 pub entry_past : (es : List Entry) (n : ℕ) → length es < n → entry_in es n ≡ None
 entry_past es n h = cond-false _ _ _ (ne_eqb n 0 (λ is. omega arith)) ∙ nth_past es (n - 1) (omega arith)
+
+-- the number of an entry of the first ones is among theirs, and its claim is one that the register takes
+pub entry_first : (book : Meaning) (count n : ℕ) → claims_known book.bound book.entries ≡ true → (o : Option Entry) → o ≡ entry_in (take count book.entries) n → OnSome o (n ≤ length (take count book.entries)) × IfSome o (λ e. is_claim book.bound e.claim ≡ true)
+entry_first book count n known None is = (tt, tt)
+entry_first book count n known (Some e) is =
+    let es = book.entries in
+    let within : n ≤ length (take count es) = elim (cases_lt (length (take count es)) n) [ inl past ↦ absurd (some_not_none e (is ∙ entry_past (take count es) n past)) | inr within ↦ within ] in
+    (within, entry_known book.bound es n e known (is ∙ entry_within count es n (omega (arith, within, length-take count es))))
+  where
+    some_not_none : (e : Entry) → Some e ≡ None → ⊥
+    some_not_none e at = let no : ◌≡◌ {A = ℕ} 0 1 = cc in omega arith
 
 -- the entry numbered i + 1 is the last of the first i + 1
 pub record Next (es : List Entry) (i : ℕ) (e : Entry) : Type 0 where

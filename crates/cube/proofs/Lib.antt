@@ -1,6 +1,5 @@
 pub mod Claims
 pub mod MovementKinds
-pub mod Accepted
 pub mod KnownClaims
 pub mod KnownEntries
 pub mod Sums

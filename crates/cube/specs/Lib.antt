@@ -4,6 +4,7 @@ pub mod Calls
 pub mod Cubes
 pub mod Faults
 pub mod Figures
+pub mod Known
 pub mod Model
 pub mod Promises
 pub mod Queries

@@ -32,8 +32,8 @@ pub(crate) fn add_terms<C: Cohort>(
     kind: Option<MovementKind>,
     terms: Option<Terms>,
 )
-    requires { length sheet.old ≡ sheet_length (C.Cohort.meaning cohort.now) }
-    ensures { sheet.new ≡ added_all sheet.old (terms_shares (C.Cohort.meaning cohort.now) placing.valued placing.claim_days placing.direction kind terms) }
+    requires { length sheet.old ≡ sheet_length (C.meaning cohort.now) }
+    ensures { sheet.new ≡ added_all sheet.old (terms_shares (C.meaning cohort.now) placing.valued placing.claim_days placing.direction kind terms) }
 {
     let (Some(kind), Some(terms)) = (kind, terms) else {
         return;
@@ -53,8 +53,8 @@ pub(crate) fn add_terms<C: Cohort>(
 
 // Adds the count of a claim.
 pub(crate) fn add_count<C: Cohort>(cohort: &C, sheet: &mut [i64], placing: Placing)
-    requires { length sheet.old ≡ sheet_length (C.Cohort.meaning cohort.now) }
-    ensures { sheet.new ≡ added_all sheet.old (count_under (C.Cohort.meaning cohort.now) placing.valued placing.claim_days placing.direction) }
+    requires { length sheet.old ≡ sheet_length (C.meaning cohort.now) }
+    ensures { sheet.new ≡ added_all sheet.old (count_under (C.meaning cohort.now) placing.valued placing.claim_days placing.direction) }
 {
     if in_time(placing.valued, placing.claim_days.report) {
         let change = placing.direction.of_one();
@@ -70,14 +70,13 @@ fn add_movement_at<R: Register, C: Cohort>(
     placing: Placing,
     number: u32,
 )
-    requires { length sheet.old ≡ sheet_length (C.Cohort.meaning cohort.now) }
-    ensures { sheet.new ≡ added_all sheet.old (movement_at (C.Cohort.meaning cohort.now) placing.valued (R.Register.meaning register.now).entries placing.claim_days placing.direction number) }
+    requires { length sheet.old ≡ sheet_length (C.meaning cohort.now) }
+    ensures { sheet.new ≡ added_all sheet.old (movement_at (C.meaning cohort.now) placing.valued (R.meaning register.now).entries placing.claim_days placing.direction number) }
 {
     let kind = kind_of(register, number);
-    let terms = match register.entry(number) {
-        Some(entry) => terms_of(entry.content),
-        None => None,
-    };
+    let terms = register
+        .entry(number)
+        .and_then(|entry| terms_of(entry.content));
     add_terms(cohort, sheet, placing, kind, terms);
 }
 
@@ -89,8 +88,8 @@ fn add_standing_part<R: Register, C: Cohort>(
     placing: Placing,
     found: NumberedEntry,
 )
-    requires { length sheet.old ≡ sheet_length (C.Cohort.meaning cohort.now) }
-    ensures { sheet.new ≡ added_all sheet.old (standing_part (C.Cohort.meaning cohort.now) placing.valued (R.Register.meaning register.now).entries placing.claim_days placing.direction found.number found.entry) }
+    requires { length sheet.old ≡ sheet_length (C.meaning cohort.now) }
+    ensures { sheet.new ≡ added_all sheet.old (standing_part (C.meaning cohort.now) placing.valued (R.meaning register.now).entries placing.claim_days placing.direction found.number found.entry) }
 {
     if found.entry.is_opening() {
         add_count(cohort, sheet, placing);
@@ -107,8 +106,8 @@ fn add_claim_part<R: Register, C: Cohort>(
     placing: Placing,
     claim: u32,
 )
-    requires { length sheet.old ≡ sheet_length (C.Cohort.meaning cohort.now) }
-    ensures { sheet.new ≡ added_all sheet.old (claim_part (C.Cohort.meaning cohort.now) placing.valued (R.Register.meaning register.now).entries claim placing.claim_days placing.direction) }
+    requires { length sheet.old ≡ sheet_length (C.meaning cohort.now) }
+    ensures { sheet.new ≡ added_all sheet.old (claim_part (C.meaning cohort.now) placing.valued (R.meaning register.now).entries claim placing.claim_days placing.direction) }
 {
     let mut after = 0;
     while let Some(found) = register.next_of_claim(claim, after) {
@@ -125,8 +124,8 @@ fn add_correction<R: Register, C: Cohort>(
     placing: Placing,
     correction: Correction,
 )
-    requires { length sheet.old ≡ sheet_length (C.Cohort.meaning cohort.now) }
-    ensures { sheet.new ≡ added_all sheet.old (correction_shares (C.Cohort.meaning cohort.now) placing.valued (R.Register.meaning register.now).entries placing.claim_days correction) }
+    requires { length sheet.old ≡ sheet_length (C.meaning cohort.now) }
+    ensures { sheet.new ≡ added_all sheet.old (correction_shares (C.meaning cohort.now) placing.valued (R.meaning register.now).entries placing.claim_days correction) }
 {
     let off = Placing {
         direction: Direction::TakenOff,
@@ -150,8 +149,8 @@ fn add_redating<R: Register, C: Cohort>(
     claim: u32,
     claim_days: ClaimDays,
 )
-    requires { length sheet.old ≡ sheet_length (C.Cohort.meaning cohort.now) }
-    ensures { sheet.new ≡ added_all sheet.old (redating_shares (C.Cohort.meaning cohort.now) placing.valued (R.Register.meaning register.now).entries claim placing.claim_days claim_days) }
+    requires { length sheet.old ≡ sheet_length (C.meaning cohort.now) }
+    ensures { sheet.new ≡ added_all sheet.old (redating_shares (C.meaning cohort.now) placing.valued (R.meaning register.now).entries claim placing.claim_days claim_days) }
 {
     let off = Placing {
         direction: Direction::TakenOff,
@@ -168,8 +167,8 @@ fn add_redating<R: Register, C: Cohort>(
 
 // Adds the count of a claim that is opened.
 fn add_opening<C: Cohort>(cohort: &C, sheet: &mut [i64], valued: Option<Day>, claim_days: ClaimDays)
-    requires { length sheet.old ≡ sheet_length (C.Cohort.meaning cohort.now) }
-    ensures { sheet.new ≡ added_all sheet.old (count_under (C.Cohort.meaning cohort.now) valued claim_days Added) }
+    requires { length sheet.old ≡ sheet_length (C.meaning cohort.now) }
+    ensures { sheet.new ≡ added_all sheet.old (count_under (C.meaning cohort.now) valued claim_days Added) }
 {
     let direction = Direction::Added;
     add_count(
@@ -185,8 +184,8 @@ fn add_opening<C: Cohort>(cohort: &C, sheet: &mut [i64], valued: Option<Day>, cl
 
 // Adds what an entry of a claim without claim days brings: only an opening brings anything.
 fn add_without_days<C: Cohort>(cohort: &C, sheet: &mut [i64], valued: Option<Day>, content: Content)
-    requires { length sheet.old ≡ sheet_length (C.Cohort.meaning cohort.now) }
-    ensures { (es : List Entry) (claim : ℕ) → sheet.new ≡ added_all sheet.old (brought_by (C.Cohort.meaning cohort.now) valued es claim None content) }
+    requires { length sheet.old ≡ sheet_length (C.meaning cohort.now) }
+    ensures { (es : List Entry) (claim : ℕ) → sheet.new ≡ added_all sheet.old (brought_by (C.meaning cohort.now) valued es claim None content) }
 {
     if let Content::Opening(claim_days) = content {
         add_opening(cohort, sheet, valued, claim_days);
@@ -202,9 +201,9 @@ fn add_under_days<R: Register, C: Cohort>(
     claim: u32,
     content: Content,
 )
-    requires sheet { length sheet.old ≡ sheet_length (C.Cohort.meaning cohort.now) }
+    requires sheet { length sheet.old ≡ sheet_length (C.meaning cohort.now) }
     requires direction { placing.direction ≡ Added }
-    ensures { sheet.new ≡ added_all sheet.old (brought_by (C.Cohort.meaning cohort.now) placing.valued (R.Register.meaning register.now).entries claim (Some placing.claim_days) content) }
+    ensures { sheet.new ≡ added_all sheet.old (brought_by (C.meaning cohort.now) placing.valued (R.meaning register.now).entries claim (Some placing.claim_days) content) }
 {
     match content {
         Content::Opening(opened) => add_opening(cohort, sheet, placing.valued, opened),
@@ -250,8 +249,8 @@ pub(crate) fn add_brought<R: Register, C: Cohort>(
     valued: Option<Day>,
     entry: Entry,
 )
-    requires { length sheet.old ≡ sheet_length (C.Cohort.meaning cohort.now) }
-    ensures { sheet.new ≡ added_all sheet.old (brings (C.Cohort.meaning cohort.now) valued (R.Register.meaning register.now).entries entry) }
+    requires { length sheet.old ≡ sheet_length (C.meaning cohort.now) }
+    ensures { sheet.new ≡ added_all sheet.old (brings (C.meaning cohort.now) valued (R.meaning register.now).entries entry) }
 {
     match claim_days_in_force(register, entry.claim) {
         Some(claim_days) => {

@@ -8,6 +8,7 @@ mod run;
 
 // A register and a cohort, the mark that its tickets carry, and the entry under the open draft, if there is one. The sheet is
 // lent to each call that books.
+// It has no model: its state holds the cohort's placing, a function, and the value of a model is data.
 #[derive(Drop)]
 pub struct Cube<R, C> {
     register: R,

@@ -17,7 +17,7 @@ pub fn row_cells<'a, C: Cohort>(
     measure: Measure,
     row: u32,
 ) -> Option<&'a [i64]>
-    ensures { option_map (λ x. x.now) result ≡ row_in (C.Cohort.meaning cohort.now) sheet.now measure row }
+    ensures { option_map (λ x. x.now) result ≡ row_in (C.meaning cohort.now) sheet.now measure row }
 {
     if sheet.len() != sheet_length(cohort) {
         return None;
@@ -31,7 +31,7 @@ pub fn row_cells<'a, C: Cohort>(
 
 // What a measure has beyond the triangle, none for a sheet of another length than the cohort asks.
 pub fn beyond_cell<C: Cohort>(cohort: &C, sheet: &[i64], measure: Measure) -> Option<i64>
-    ensures { result ≡ beyond_in (C.Cohort.meaning cohort.now) sheet.now measure }
+    ensures { result ≡ beyond_in (C.meaning cohort.now) sheet.now measure }
 {
     if sheet.len() != sheet_length(cohort) {
         return None;

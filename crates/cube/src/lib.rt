@@ -5,6 +5,7 @@ mod brings;
 pub mod cube;
 pub mod fault;
 pub mod figures;
+mod known_entries;
 pub mod measure;
 mod query;
 pub mod reading;

@@ -1,5 +1,6 @@
 // What a register's entries say of a claim or a movement.
-ghost use Rattle.std.specs.Prelude.{◌≡◌, take, drop};
+ghost use Rattle.std.specs.Prelude.{◌≡◌, true, take, drop, OnSome};
+ghost use Rattle.register.specs.Registers.{is_claim};
 ghost use Rattle.register.specs.Entries.{claim_days_in, days_after, entry_in, kind_in, stands_in, replaces, is_number, named_by};
 
 use register::entry::{Content, Entry};
@@ -12,15 +13,15 @@ pub(crate) fn days_after(before: Option<ClaimDays>, entry: Entry) -> Option<Clai
     ensures { result ≡ days_after before entry.content }
 {
     match entry.content {
-        Content::Opening(claim_days) => Some(claim_days),
-        Content::Redating(claim_days) => Some(claim_days),
+        Content::Opening(claim_days) | Content::Redating(claim_days) => Some(claim_days),
         _ => before,
     }
 }
 
 // The claim days in force: those of the claim's last opening or redating.
 pub fn claim_days_in_force<R: Register>(register: &R, claim: u32) -> Option<ClaimDays>
-    ensures { result ≡ claim_days_in (R.Register.meaning register.now).entries claim }
+    ensures value { result ≡ claim_days_in (R.meaning register.now).entries claim }
+    ensures known { OnSome result (is_claim (R.meaning register.now).bound claim ≡ true) }
 {
     let mut days = None;
     let mut after = 0;
@@ -35,15 +36,12 @@ pub fn claim_days_in_force<R: Register>(register: &R, claim: u32) -> Option<Clai
 fn names(entry: Entry, number: u32) -> bool
     ensures { result ≡ is_number (named_by entry) number }
 {
-    match entry.named() {
-        Some(named) => named == number,
-        None => false,
-    }
+    entry.named() == Some(number)
 }
 
 // Whether an entry of the claim after the one with this number corrects or voids it.
 pub fn is_replaced<R: Register>(register: &R, claim: u32, number: u32) -> bool
-    ensures { result ≡ replaces (drop number (R.Register.meaning register.now).entries) claim number }
+    ensures { result ≡ replaces (drop number (R.meaning register.now).entries) claim number }
 {
     let mut after = number;
     while let Some(found) = register.next_of_claim(claim, after) {
@@ -57,17 +55,15 @@ pub fn is_replaced<R: Register>(register: &R, claim: u32, number: u32) -> bool
 
 // Whether the entry with a number is a movement that stands.
 pub fn stands<R: Register>(register: &R, number: u32) -> bool
-    ensures { result ≡ stands_in (R.Register.meaning register.now).entries number }
+    ensures { result ≡ stands_in (R.meaning register.now).entries number }
 {
-    match register.entry(number) {
-        Some(entry) => entry.is_movement() && !is_replaced(register, entry.claim, number),
-        None => false,
-    }
+    register.entry(number).is_some_and(|entry| entry.is_movement()
+        && !is_replaced(register, entry.claim, number))
 }
 
 // The entry with a number, among the first `count` entries.
 pub(crate) fn entry_among<R: Register>(register: &R, count: u32, number: u32) -> Option<Entry>
-    ensures { result ≡ entry_in (take count (R.Register.meaning register.now).entries) number }
+    ensures { result ≡ entry_in (take count (R.meaning register.now).entries) number }
 {
     if number <= count {
         register.entry(number)
@@ -79,20 +75,16 @@ pub(crate) fn entry_among<R: Register>(register: &R, count: u32, number: u32) ->
 // Whether the entry with a number counts as a payment or as a reserve change, by the first `count` entries; a correction counts
 // as what it names.
 pub(crate) fn kind_among<R: Register>(register: &R, count: u32, number: u32) -> Option<MovementKind>
-    ensures { result ≡ kind_in (take count (R.Register.meaning register.now).entries) number }
+    ensures { result ≡ kind_in (take count (R.meaning register.now).entries) number }
 {
     let mut at = number;
     for step in 0..number {
-        let Some(entry) = entry_among(register, count, at) else {
-            return None;
-        };
+        let entry = entry_among(register, count, at)?;
         match entry.content {
             Content::Payment(_) => return Some(MovementKind::Paid),
             Content::ReserveChange(_) => return Some(MovementKind::Reserved),
             Content::Correction(correction) => at = correction.names,
-            Content::Opening(_) => return None,
-            Content::Void(_) => return None,
-            Content::Redating(_) => return None,
+            Content::Opening(_) | Content::Void(_) | Content::Redating(_) => return None,
         }
     }
     None
@@ -100,7 +92,7 @@ pub(crate) fn kind_among<R: Register>(register: &R, count: u32, number: u32) -> 
 
 // Whether the entry with a number counts as a payment or as a reserve change.
 pub fn kind_of<R: Register>(register: &R, number: u32) -> Option<MovementKind>
-    ensures { result ≡ kind_in (R.Register.meaning register.now).entries number }
+    ensures { result ≡ kind_in (R.meaning register.now).entries number }
 {
     kind_among(register, register.len(), number)
 }

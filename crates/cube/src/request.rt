@@ -46,7 +46,7 @@ pub enum Request {
 }
 
 // What a request was answered.
-#[derive(PartialEq, Debug, Drop)]
+#[derive(PartialEq, Clone, Debug, Drop)]
 pub enum Answer {
     // a claim was opened
     Opened(Opened),
@@ -65,7 +65,7 @@ pub enum Answer {
 }
 
 // Memory ran out: the answers to the requests that were served until then. Nothing was done for the others.
-#[derive(Drop)]
+#[derive(PartialEq, Clone, Debug, Drop)]
 pub struct Stopped {
     pub answers: Vec<Answer>,
 }

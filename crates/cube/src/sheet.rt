@@ -13,7 +13,7 @@ use values::place::Place;
 
 // The length of a sheet: three measures of rows × columns cells, and one cell more for what lies beyond.
 pub fn sheet_length<C: Cohort>(cohort: &C) -> usize
-    ensures { result ≡ sheet_length (C.Cohort.meaning cohort.now) }
+    ensures { result ≡ sheet_length (C.meaning cohort.now) }
 {
     3 * (cohort.rows() as usize * cohort.columns() as usize + 1)
 }
@@ -23,18 +23,14 @@ fn measure_index(measure: Measure) -> usize
     ensures value { result ≡ measure_index measure }
     ensures few { result ≤ 2 }
 {
-    match measure {
-        Measure::Paid => 0,
-        Measure::Incurred => 1,
-        Measure::Count => 2,
-    }
+    measure as usize
 }
 
 // The cell of a place within a measure's block.
 fn cell_in_block<C: Cohort>(cohort: &C, place: Place) -> usize
-    requires { Inside (C.Cohort.meaning cohort.now) place }
-    ensures value { result ≡ cell_in_block (C.Cohort.meaning cohort.now) place }
-    ensures within { result < block (C.Cohort.meaning cohort.now) }
+    requires { Inside (C.meaning cohort.now) place }
+    ensures value { result ≡ cell_in_block (C.meaning cohort.now) place }
+    ensures within { result < block (C.meaning cohort.now) }
 {
     let columns = cohort.columns() as usize;
     match place {
@@ -45,9 +41,9 @@ fn cell_in_block<C: Cohort>(cohort: &C, place: Place) -> usize
 
 // The cell of a measure and a place.
 pub(crate) fn cell_of<C: Cohort>(cohort: &C, measure: Measure, place: Place) -> usize
-    requires { Inside (C.Cohort.meaning cohort.now) place }
-    ensures value { result ≡ cell_of (C.Cohort.meaning cohort.now) measure place }
-    ensures within { result < sheet_length (C.Cohort.meaning cohort.now) }
+    requires { Inside (C.meaning cohort.now) place }
+    ensures value { result ≡ cell_of (C.meaning cohort.now) measure place }
+    ensures within { result < sheet_length (C.meaning cohort.now) }
 {
     let block = cohort.rows() as usize * cohort.columns() as usize + 1;
     measure_index(measure) * block + cell_in_block(cohort, place)
@@ -55,8 +51,8 @@ pub(crate) fn cell_of<C: Cohort>(cohort: &C, measure: Measure, place: Place) -> 
 
 // The cell of a measure at the place of a day under the claim days.
 fn cell_at<C: Cohort>(cohort: &C, measure: Measure, claim_days: ClaimDays, day: Day) -> usize
-    ensures value { result ≡ cell_of (C.Cohort.meaning cohort.now) measure ((C.Cohort.meaning cohort.now).place claim_days day) }
-    ensures within { result < sheet_length (C.Cohort.meaning cohort.now) }
+    ensures value { result ≡ cell_of (C.meaning cohort.now) measure ((C.meaning cohort.now).place claim_days day) }
+    ensures within { result < sheet_length (C.meaning cohort.now) }
 {
     let place = cohort.place(claim_days, day);
     cell_of(cohort, measure, place)
@@ -79,8 +75,8 @@ pub(crate) fn add_movement<C: Cohort>(
     effective: Day,
     change: Change,
 )
-    requires { length sheet.old ≡ sheet_length (C.Cohort.meaning cohort.now) }
-    ensures { sheet.new ≡ added_all sheet.old (movement_shares (C.Cohort.meaning cohort.now) kind claim_days effective change.cents) }
+    requires { length sheet.old ≡ sheet_length (C.meaning cohort.now) }
+    ensures { sheet.new ≡ added_all sheet.old (movement_shares (C.meaning cohort.now) kind claim_days effective change.cents) }
 {
     let incurred = cell_at(cohort, Measure::Incurred, claim_days, effective);
     match kind {
@@ -102,8 +98,8 @@ pub(crate) fn add_claim<C: Cohort>(
     claim_days: ClaimDays,
     change: Change,
 )
-    requires { length sheet.old ≡ sheet_length (C.Cohort.meaning cohort.now) }
-    ensures { sheet.new ≡ added_all sheet.old (claim_shares (C.Cohort.meaning cohort.now) claim_days change.cents) }
+    requires { length sheet.old ≡ sheet_length (C.meaning cohort.now) }
+    ensures { sheet.new ≡ added_all sheet.old (claim_shares (C.meaning cohort.now) claim_days change.cents) }
 {
     let count = cell_at(cohort, Measure::Count, claim_days, claim_days.report);
     add_at(sheet, count, change);

@@ -10,7 +10,7 @@ use std::alloc::{AllocError, Global};
 use values::claim_days::ClaimDays;
 
 // For the first `count` entries: the claim days in force, by claim number, and whether a later entry corrects or voids the
-// entry, by entry number.
+// entry, by entry number. The numbers are dense from 1, so each map is a Vec.
 #[derive(Drop)]
 pub(crate) struct Tables {
     pub(crate) count: u32,
@@ -20,15 +20,11 @@ pub(crate) struct Tables {
 
 // The number of the entry that an entry corrects or voids: the one that it names, if that is before it and of its claim.
 fn replaced_by<R: Register>(register: &R, before: u32, entry: Entry) -> Option<u32>
-    ensures { result ≡ replaced_next (take before (R.Register.meaning register.now).entries) entry }
+    ensures { result ≡ replaced_next (take before (R.meaning register.now).entries) entry }
 {
     let named = entry.named()?;
     let found = entry_among(register, before, named)?;
-    if found.claim == entry.claim {
-        Some(named)
-    } else {
-        None
-    }
+    (found.claim == entry.claim).then_some(named)
 }
 
 impl Tables {
@@ -59,10 +55,10 @@ impl Tables {
 
     // Notes one entry more, after the first `before` entries.
     fn note<R: Register>(&mut self, register: &R, before: u32)
-        requires tables { Tabled (R.Register.meaning register.now).bound (take before (R.Register.meaning register.now).entries) self.old }
+        requires tables { Tabled (R.meaning register.now).bound (take before (R.meaning register.now).entries) self.old }
         requires before { before < self.old.count }
         requires number { before + 1 < 2 ^ 32 }
-        ensures tables { Tabled (R.Register.meaning register.now).bound (take (before + 1) (R.Register.meaning register.now).entries) self.new }
+        ensures tables { Tabled (R.meaning register.now).bound (take (before + 1) (R.meaning register.now).entries) self.new }
         ensures count { self.new.count ≡ self.old.count }
     {
         let Some(entry) = register.entry(before + 1) else {
@@ -80,7 +76,7 @@ impl Tables {
         register: &R,
         count: u32,
     ) -> Result<Tables, AllocError>
-        ensures tables { IfOk result (λ t. Tabled (R.Register.meaning register.now).bound (take count (R.Register.meaning register.now).entries) t) }
+        ensures tables { IfOk result (λ t. Tabled (R.meaning register.now).bound (take count (R.meaning register.now).entries) t) }
         ensures count { IfOk result (λ t. t.count ≡ count) }
     {
         let mut tables = Tables::new(heap, count, register.claim_bound())?;
@@ -98,11 +94,11 @@ impl Tables {
         self.claim_days[claim as usize]
     }
 
-    // Whether the entry with a number is a movement that stands.
-    pub(crate) fn stands(&self, number: u32, entry: Entry) -> bool
+    // Whether a later entry corrects or voids the entry with a number.
+    pub(crate) fn is_replaced(&self, number: u32) -> bool
         requires { number < vec_len self.now.replaced }
-        ensures { result ≡ (is_movement entry && not (slice_index_or self.now.replaced.items number false)) }
+        ensures { result ≡ slice_index_or self.now.replaced.items number false }
     {
-        entry.is_movement() && !self.replaced[number as usize]
+        self.replaced[number as usize]
     }
 }

@@ -1,5 +1,5 @@
 // The terms of a movement, and which way they fall into the sheet.
-ghost use Rattle.std.specs.Prelude.{◌≡◌, pos};
+ghost use Rattle.std.specs.Prelude.{◌≡◌, ◌≤ℤ◌, neg_ℤ, pos};
 ghost use Rattle.cube.specs.Brings.{directed, in_time, terms_of};
 
 use register::entry::{Content, Terms};
@@ -20,28 +20,29 @@ pub struct Change {
 }
 
 impl Direction {
+    // The change that a number of cents or of claims makes.
+    fn change(self, number: i64) -> Change
+        requires { neg_ℤ (pos 9223372036854775807) ≤ℤ number }
+        ensures { result.cents ≡ directed self number }
+    {
+        match self {
+            Direction::Added => Change { cents: number },
+            Direction::TakenOff => Change { cents: -number },
+        }
+    }
+
     // The change that an amount makes.
     pub fn of(self, amount: Amount) -> Change
         ensures { result.cents ≡ directed self amount.cents }
     {
-        match self {
-            Direction::Added => Change {
-                cents: amount.cents(),
-            },
-            Direction::TakenOff => Change {
-                cents: -amount.cents(),
-            },
-        }
+        self.change(amount.cents())
     }
 
     // The change that one claim makes.
     pub fn of_one(self) -> Change
         ensures { result.cents ≡ directed self (pos 1) }
     {
-        match self {
-            Direction::Added => Change { cents: 1 },
-            Direction::TakenOff => Change { cents: -1 },
-        }
+        self.change(1)
     }
 }
 
@@ -60,8 +61,5 @@ pub fn terms_of(content: Content) -> Option<Terms>
 pub fn in_time(valued: Option<Day>, day: Day) -> bool
     ensures { result ≡ in_time valued day }
 {
-    match valued {
-        Some(last) => day.number() <= last.number(),
-        None => true,
-    }
+    valued.is_none_or(|last| day <= last)
 }

@@ -13,15 +13,12 @@ use values::cohort::Cohort;
 impl<R: Register, C: Cohort> Cube<R, C> {
     // Adds the entry to the register and what it brings to the sheet, and tells its number.
     pub(super) fn book(&mut self, sheet: &mut [i64], entry: Entry) -> u32
-        requires { Bookable (state_of R.Register.meaning C.Cohort.meaning self.old) (length sheet.old) entry }
-        ensures number { result ≡ length (R.Register.meaning self.old.register).entries + 1 }
-        ensures state { state_of R.Register.meaning C.Cohort.meaning self.new ≡ state_after (state_of R.Register.meaning C.Cohort.meaning self.old) (Ok entry) }
-        ensures sheet { sheet.new ≡ sheet_after (state_of R.Register.meaning C.Cohort.meaning self.old) (Ok entry) sheet.old }
+        requires { Bookable (state_of R.meaning C.meaning self.old) (length sheet.old) entry }
+        ensures number { result ≡ length (R.meaning self.old.register).entries + 1 }
+        ensures state { state_of R.meaning C.meaning self.new ≡ state_after (state_of R.meaning C.meaning self.old) (Ok entry) }
+        ensures sheet { sheet.new ≡ sheet_after (state_of R.meaning C.meaning self.old) (Ok entry) sheet.old }
     {
         add_brought(&self.register, &self.cohort, sheet, None, entry);
-        match self.register.add(entry) {
-            Ok(number) => number,
-            Err(_) => 0,
-        }
+        self.register.add(entry).unwrap()
     }
 }

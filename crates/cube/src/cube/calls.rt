@@ -1,8 +1,9 @@
 // The calls on a cube that book an entry.
 ghost use Rattle.std.specs.Prelude.{◌≡◌, length, IfOk};
 ghost use Rattle.cube.specs.Booking.{Bookable};
-ghost use Rattle.cube.specs.Cubes.{state_of};
-ghost use Rattle.cube.specs.Model.{move_entry, movement_content, number_told, open_entry, open_told, redate_entry, sheet_after, state_after, void_entry};
+ghost use Rattle.cube.specs.Calls.{Call, next};
+ghost use Rattle.cube.specs.Cubes.{ledger_of, state_of};
+ghost use Rattle.cube.specs.Model.{move_entry, movement_content, number_told, open_entry, open_told, redate_entry, void_entry};
 
 use super::Cube;
 use super::checks::{check_days, check_effective, moved_before, refused_if, standing_movement};
@@ -34,8 +35,8 @@ impl<R: Register, C: Cohort> Cube<R, C> {
         booked: Day,
         claim_days: ClaimDays,
     ) -> Result<Entry, CallFault>
-        ensures verdict { result ≡ open_entry (state_of R.Register.meaning C.Cohort.meaning self.now) sheet booked claim_days }
-        ensures accepted { IfOk result (λ e. Bookable (state_of R.Register.meaning C.Cohort.meaning self.now) sheet e) }
+        ensures verdict { result ≡ open_entry (state_of R.meaning C.meaning self.now) sheet booked claim_days }
+        ensures accepted { IfOk result (λ e. Bookable (state_of R.meaning C.meaning self.now) sheet e) }
     {
         self.check_booking(sheet, booked)?;
         let opened = self.register.openings();
@@ -58,9 +59,8 @@ impl<R: Register, C: Cohort> Cube<R, C> {
         booked: Day,
         claim_days: ClaimDays,
     ) -> Result<Opened, CallFault>
-        ensures answer { result ≡ open_told (state_of R.Register.meaning C.Cohort.meaning self.old) (open_entry (state_of R.Register.meaning C.Cohort.meaning self.old) (length sheet.old) booked claim_days) }
-        ensures state { state_of R.Register.meaning C.Cohort.meaning self.new ≡ state_after (state_of R.Register.meaning C.Cohort.meaning self.old) (open_entry (state_of R.Register.meaning C.Cohort.meaning self.old) (length sheet.old) booked claim_days) }
-        ensures sheet { sheet.new ≡ sheet_after (state_of R.Register.meaning C.Cohort.meaning self.old) (open_entry (state_of R.Register.meaning C.Cohort.meaning self.old) (length sheet.old) booked claim_days) sheet.old }
+        ensures answer { let s = state_of R.meaning C.meaning self.old in result ≡ open_told s (open_entry s (length sheet.old) booked claim_days) }
+        ensures ledger { ledger_of R.meaning C.meaning self.new sheet.new ≡ next (ledger_of R.meaning C.meaning self.old sheet.old) (Call.Open (length sheet.old) booked claim_days) }
     {
         let entry = self.check_open(sheet.len(), booked, claim_days)?;
         let number = self.book(sheet, entry);
@@ -79,13 +79,11 @@ impl<R: Register, C: Cohort> Cube<R, C> {
         claim: u32,
         terms: Terms,
     ) -> Result<Entry, CallFault>
-        ensures verdict { result ≡ move_entry (state_of R.Register.meaning C.Cohort.meaning self.now) sheet kind booked claim terms }
-        ensures accepted { IfOk result (λ e. Bookable (state_of R.Register.meaning C.Cohort.meaning self.now) sheet e) }
+        ensures verdict { result ≡ move_entry (state_of R.meaning C.meaning self.now) sheet kind booked claim terms }
+        ensures accepted { IfOk result (λ e. Bookable (state_of R.meaning C.meaning self.now) sheet e) }
     {
         self.check_booking(sheet, booked)?;
-        let Some(claim_days) = claim_days_in_force(&self.register, claim) else {
-            return Err(CallFault::NoSuchClaim);
-        };
+        let claim_days = claim_days_in_force(&self.register, claim).ok_or(CallFault::NoSuchClaim)?;
         check_effective(claim_days, terms.effective, booked)?;
         let content = movement_content(kind, terms);
         Ok(Entry {
@@ -104,9 +102,8 @@ impl<R: Register, C: Cohort> Cube<R, C> {
         claim: u32,
         terms: Terms,
     ) -> Result<u32, CallFault>
-        ensures answer { result ≡ number_told (state_of R.Register.meaning C.Cohort.meaning self.old) (move_entry (state_of R.Register.meaning C.Cohort.meaning self.old) (length sheet.old) kind booked claim terms) }
-        ensures state { state_of R.Register.meaning C.Cohort.meaning self.new ≡ state_after (state_of R.Register.meaning C.Cohort.meaning self.old) (move_entry (state_of R.Register.meaning C.Cohort.meaning self.old) (length sheet.old) kind booked claim terms) }
-        ensures sheet { sheet.new ≡ sheet_after (state_of R.Register.meaning C.Cohort.meaning self.old) (move_entry (state_of R.Register.meaning C.Cohort.meaning self.old) (length sheet.old) kind booked claim terms) sheet.old }
+        ensures answer { let s = state_of R.meaning C.meaning self.old in result ≡ number_told s (move_entry s (length sheet.old) kind booked claim terms) }
+        ensures ledger { ledger_of R.meaning C.meaning self.new sheet.new ≡ next (ledger_of R.meaning C.meaning self.old sheet.old) (Call.Move (length sheet.old) kind booked claim terms) }
     {
         let entry = self.check_movement(sheet.len(), kind, booked, claim, terms)?;
         Ok(self.book(sheet, entry))
@@ -114,8 +111,8 @@ impl<R: Register, C: Cohort> Cube<R, C> {
 
     // The entry of a void, or the fault.
     fn check_void(&self, sheet: usize, booked: Day, number: u32) -> Result<Entry, CallFault>
-        ensures verdict { result ≡ void_entry (state_of R.Register.meaning C.Cohort.meaning self.now) sheet booked number }
-        ensures accepted { IfOk result (λ e. Bookable (state_of R.Register.meaning C.Cohort.meaning self.now) sheet e) }
+        ensures verdict { result ≡ void_entry (state_of R.meaning C.meaning self.now) sheet booked number }
+        ensures accepted { IfOk result (λ e. Bookable (state_of R.meaning C.meaning self.now) sheet e) }
     {
         self.check_booking(sheet, booked)?;
         let named = standing_movement(&self.register, number)?;
@@ -130,9 +127,8 @@ impl<R: Register, C: Cohort> Cube<R, C> {
 
     // Voids a standing movement.
     pub fn void(&mut self, sheet: &mut [i64], booked: Day, number: u32) -> Result<u32, CallFault>
-        ensures answer { result ≡ number_told (state_of R.Register.meaning C.Cohort.meaning self.old) (void_entry (state_of R.Register.meaning C.Cohort.meaning self.old) (length sheet.old) booked number) }
-        ensures state { state_of R.Register.meaning C.Cohort.meaning self.new ≡ state_after (state_of R.Register.meaning C.Cohort.meaning self.old) (void_entry (state_of R.Register.meaning C.Cohort.meaning self.old) (length sheet.old) booked number) }
-        ensures sheet { sheet.new ≡ sheet_after (state_of R.Register.meaning C.Cohort.meaning self.old) (void_entry (state_of R.Register.meaning C.Cohort.meaning self.old) (length sheet.old) booked number) sheet.old }
+        ensures answer { let s = state_of R.meaning C.meaning self.old in result ≡ number_told s (void_entry s (length sheet.old) booked number) }
+        ensures ledger { ledger_of R.meaning C.meaning self.new sheet.new ≡ next (ledger_of R.meaning C.meaning self.old sheet.old) (Call.Void (length sheet.old) booked number) }
     {
         let entry = self.check_void(sheet.len(), booked, number)?;
         Ok(self.book(sheet, entry))
@@ -146,13 +142,11 @@ impl<R: Register, C: Cohort> Cube<R, C> {
         claim: u32,
         claim_days: ClaimDays,
     ) -> Result<Entry, CallFault>
-        ensures verdict { result ≡ redate_entry (state_of R.Register.meaning C.Cohort.meaning self.now) sheet booked claim claim_days }
-        ensures accepted { IfOk result (λ e. Bookable (state_of R.Register.meaning C.Cohort.meaning self.now) sheet e) }
+        ensures verdict { result ≡ redate_entry (state_of R.meaning C.meaning self.now) sheet booked claim claim_days }
+        ensures accepted { IfOk result (λ e. Bookable (state_of R.meaning C.meaning self.now) sheet e) }
     {
         self.check_booking(sheet, booked)?;
-        let Some(_) = claim_days_in_force(&self.register, claim) else {
-            return Err(CallFault::NoSuchClaim);
-        };
+        claim_days_in_force(&self.register, claim).ok_or(CallFault::NoSuchClaim)?;
         check_days(claim_days, booked)?;
         let moved = moved_before(&self.register, claim, claim_days.report);
         refused_if(moved, CallFault::MovementBeforeReport)?;
@@ -172,9 +166,8 @@ impl<R: Register, C: Cohort> Cube<R, C> {
         claim: u32,
         claim_days: ClaimDays,
     ) -> Result<u32, CallFault>
-        ensures answer { result ≡ number_told (state_of R.Register.meaning C.Cohort.meaning self.old) (redate_entry (state_of R.Register.meaning C.Cohort.meaning self.old) (length sheet.old) booked claim claim_days) }
-        ensures state { state_of R.Register.meaning C.Cohort.meaning self.new ≡ state_after (state_of R.Register.meaning C.Cohort.meaning self.old) (redate_entry (state_of R.Register.meaning C.Cohort.meaning self.old) (length sheet.old) booked claim claim_days) }
-        ensures sheet { sheet.new ≡ sheet_after (state_of R.Register.meaning C.Cohort.meaning self.old) (redate_entry (state_of R.Register.meaning C.Cohort.meaning self.old) (length sheet.old) booked claim claim_days) sheet.old }
+        ensures answer { let s = state_of R.meaning C.meaning self.old in result ≡ number_told s (redate_entry s (length sheet.old) booked claim claim_days) }
+        ensures ledger { ledger_of R.meaning C.meaning self.new sheet.new ≡ next (ledger_of R.meaning C.meaning self.old sheet.old) (Call.Redate (length sheet.old) booked claim claim_days) }
     {
         let entry = self.check_redate(sheet.len(), booked, claim, claim_days)?;
         Ok(self.book(sheet, entry))

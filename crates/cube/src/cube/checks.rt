@@ -1,8 +1,10 @@
 // The checks that calls make.
-ghost use Rattle.std.specs.Prelude.{◌≡◌, length, IfOk, Some, OnOk};
+ghost use Rattle.std.specs.Prelude.{◌≡◌, true, length, IfOk, OnOk};
 ghost use Rattle.register.specs.Entries.{entry_in};
+ghost use Rattle.register.specs.Registers.{is_claim};
 ghost use Rattle.cube.specs.Cubes.{state_of};
 ghost use Rattle.cube.specs.Model.{booked_after, booking_checked, days_checked, earlier_movement, effective_checked, is_after, moved_before_from, on_draft, refused_if, standing_movement};
+ghost use Rattle.cube.specs.Queries.{query_checked};
 ghost use Rattle.cube.specs.Sheets.{sheet_length};
 
 use super::Cube;
@@ -28,7 +30,7 @@ pub(super) fn refused_if(test: bool, fault: CallFault) -> Result<(), CallFault>
 pub(super) fn is_after(day: Day, other: Day) -> bool
     ensures { result ≡ is_after day other }
 {
-    other.number() < day.number()
+    other < day
 }
 
 // Claim days are in order, and reported by the booking day.
@@ -56,12 +58,10 @@ pub(super) fn check_effective(
 
 // The movement with a number, if it stands.
 pub(super) fn standing_movement<R: Register>(register: &R, number: u32) -> Result<Entry, CallFault>
-    ensures verdict { result ≡ standing_movement (R.Register.meaning register.now).entries number }
-    ensures found { IfOk result (λ e. Some e ≡ entry_in (R.Register.meaning register.now).entries number) }
+    ensures verdict { result ≡ standing_movement (R.meaning register.now).entries number }
+    ensures known { IfOk result (λ e. is_claim (R.meaning register.now).bound e.claim ≡ true) }
 {
-    let Some(entry) = register.entry(number) else {
-        return Err(CallFault::NoSuchEntry);
-    };
+    let entry = register.entry(number).ok_or(CallFault::NoSuchEntry)?;
     refused_if(!entry.is_movement(), CallFault::NotAMovement)?;
     refused_if(!stands(register, number), CallFault::NotStanding)?;
     Ok(entry)
@@ -69,28 +69,24 @@ pub(super) fn standing_movement<R: Register>(register: &R, number: u32) -> Resul
 
 // Whether the last entry was booked after a day.
 fn booked_after<R: Register>(register: &R, day: Day) -> bool
-    ensures { result ≡ booked_after (entry_in (R.Register.meaning register.now).entries (length (R.Register.meaning register.now).entries)) day }
+    ensures { result ≡ booked_after (entry_in (R.meaning register.now).entries (length (R.meaning register.now).entries)) day }
 {
-    match register.entry(register.len()) {
-        Some(last) => is_after(last.booked, day),
-        None => false,
-    }
+    register
+        .entry(register.len())
+        .is_some_and(|last| is_after(last.booked, day))
 }
 
 // Whether an entry is a movement that stands, with an effective day before the report day.
 fn is_earlier<R: Register>(register: &R, report: Day, found: NumberedEntry) -> bool
-    ensures { result ≡ earlier_movement (R.Register.meaning register.now).entries report found.number found.entry }
+    ensures { result ≡ earlier_movement (R.meaning register.now).entries report found.number found.entry }
 {
-    let earlier = match terms_of(found.entry.content) {
-        Some(terms) => is_after(report, terms.effective),
-        None => false,
-    };
-    earlier && stands(register, found.number)
+    terms_of(found.entry.content).is_some_and(|terms| is_after(report, terms.effective))
+        && stands(register, found.number)
 }
 
 // Whether a standing movement of the claim has an effective day before the report day.
 pub(super) fn moved_before<R: Register>(register: &R, claim: u32, report: Day) -> bool
-    ensures { result ≡ moved_before_from (R.Register.meaning register.now).entries claim report 0 (R.Register.meaning register.now).entries }
+    ensures { result ≡ moved_before_from (R.meaning register.now).entries claim report 0 (R.meaning register.now).entries }
 {
     let mut after = 0;
     while let Some(found) = register.next_of_claim(claim, after) {
@@ -103,12 +99,20 @@ pub(super) fn moved_before<R: Register>(register: &R, claim: u32, report: Day) -
 }
 
 impl<R: Register, C: Cohort> Cube<R, C> {
+    // A sheet is as long as the cohort asks.
+    pub(super) fn check_sheet(&self, sheet: usize) -> Result<(), CallFault>
+        ensures verdict { result ≡ query_checked (state_of R.meaning C.meaning self.now) sheet }
+        ensures fits { OnOk result (sheet ≡ sheet_length (C.meaning self.now.cohort)) }
+    {
+        refused_if(sheet != sheet_length(&self.cohort), CallFault::SheetLength)
+    }
+
     // The checks of every call with a booking day, by the length of the sheet that it is lent.
     pub(super) fn check_booking(&self, sheet: usize, booked: Day) -> Result<(), CallFault>
-        ensures verdict { result ≡ booking_checked (state_of R.Register.meaning C.Cohort.meaning self.now) sheet booked }
-        ensures passed { OnOk result ((sheet ≡ sheet_length (C.Cohort.meaning self.now.cohort)) × (length (R.Register.meaning self.now.register).entries ≡ (R.Register.meaning self.now.register).capacity → ⊥)) }
+        ensures verdict { result ≡ booking_checked (state_of R.meaning C.meaning self.now) sheet booked }
+        ensures passed { OnOk result ((sheet ≡ sheet_length (C.meaning self.now.cohort)) × (length (R.meaning self.now.register).entries ≡ (R.meaning self.now.register).capacity → ⊥)) }
     {
-        refused_if(sheet != sheet_length(&self.cohort), CallFault::SheetLength)?;
+        self.check_sheet(sheet)?;
         refused_if(
             booked_after(&self.register, booked),
             CallFault::BookedEarlier,
@@ -123,9 +127,6 @@ impl<R: Register, C: Cohort> Cube<R, C> {
     pub(super) fn is_drafted(&self, number: u32) -> bool
         ensures { result ≡ on_draft self.now.draft number }
     {
-        match self.draft {
-            Some(drafted) => drafted == number,
-            None => false,
-        }
+        self.draft == Some(number)
     }
 }

@@ -3,10 +3,9 @@ ghost use Rattle.cube.specs.Cubes.{state_of};
 ghost use Rattle.cube.specs.Queries.{Answered};
 
 use super::Cube;
-use crate::fault::{CallFault, QueryFault};
-use crate::query::{add_triangle, booked_by};
-use crate::sheet::sheet_length;
-use crate::tables::Tables;
+use crate::fault::QueryFault;
+use crate::known_entries::KnownEntries;
+use crate::query::booked_by;
 use register::register::Register;
 use std::alloc::Global;
 use values::cohort::Cohort;
@@ -22,18 +21,13 @@ impl<R: Register, C: Cohort> Cube<R, C> {
         valued: Day,
         answer: &mut [i64],
     ) -> Result<(), QueryFault>
-        ensures { Answered (state_of R.Register.meaning C.Cohort.meaning self.now) known valued result answer.old answer.new }
+        ensures { Answered (state_of R.meaning C.meaning self.now) known valued result answer.old answer.new }
     {
-        if answer.len() != sheet_length(&self.cohort) {
-            return Err(QueryFault::Refused(CallFault::SheetLength));
-        }
+        self.check_sheet(answer.len())?;
         let count = booked_by(&self.register, known);
-        let tables = match Tables::of(heap, &self.register, count) {
-            Ok(tables) => tables,
-            Err(error) => return Err(QueryFault::OutOfMemory(error)),
-        };
+        let entries = KnownEntries::of(heap, &self.register, count)?;
         answer.fill(0);
-        add_triangle(&self.register, &self.cohort, answer, &tables, Some(valued));
+        entries.add_triangle(&self.cohort, answer, Some(valued));
         Ok(())
     }
 }

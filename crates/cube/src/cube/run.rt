@@ -16,30 +16,10 @@ use std::alloc::{AllocError, Global};
 use values::cohort::Cohort;
 use values::day::Day;
 
-// The answer to an opening.
-fn opened_answer(res: Result<Opened, CallFault>) -> Answer
-    ensures { told result ≡ told_of (λ o. Told.Opened o.entry o.claim) res }
-{
-    match res {
-        Ok(opened) => Answer::Opened(opened),
-        Err(fault) => Answer::Refused(fault),
-    }
-}
-
-// The answer to another call that books.
-fn booked_answer(res: Result<u32, CallFault>) -> Answer
-    ensures { told result ≡ told_of Told.Booked res }
-{
-    match res {
-        Ok(number) => Answer::Booked(number),
-        Err(fault) => Answer::Refused(fault),
-    }
-}
-
 impl<R: Register, C: Cohort> Cube<R, C> {
     // Drafts, and puts the ticket into the drawer, which has room for it before the call is made.
     fn serve_draft(&mut self, drawer: &mut Vec<Ticket>, number: u32) -> Result<Answer, AllocError>
-        ensures { (sheet : List ℤ) → Served (desk_of R.Register.meaning C.Cohort.meaning self.old sheet drawer.old.items) (Request.Draft number) result (desk_of R.Register.meaning C.Cohort.meaning self.new sheet drawer.new.items) }
+        ensures { (sheet : List ℤ) → Served (desk_of R.meaning C.meaning self.old sheet drawer.old.items) (Request.Draft number) result (desk_of R.meaning C.meaning self.new sheet drawer.new.items) }
     {
         drawer.reserve(1)?;
         match self.draft(number) {
@@ -53,16 +33,14 @@ impl<R: Register, C: Cohort> Cube<R, C> {
 
     // Drops the draft of the ticket at a place of the drawer.
     fn serve_drop(&mut self, drawer: &mut Vec<Ticket>, place: usize) -> Answer
-        ensures { (sheet : List ℤ) → Served (desk_of R.Register.meaning C.Cohort.meaning self.old sheet drawer.old.items) (Request.Drop place) (Ok result) (desk_of R.Register.meaning C.Cohort.meaning self.new sheet drawer.new.items) }
+        ensures { (sheet : List ℤ) → Served (desk_of R.meaning C.meaning self.old sheet drawer.old.items) (Request.Drop place) (Ok result) (desk_of R.meaning C.meaning self.new sheet drawer.new.items) }
     {
         if place >= drawer.len() {
             return Answer::NoTicket;
         }
         let ticket = drawer.remove(place);
-        match self.drop_draft(ticket) {
-            Ok(()) => Answer::Dropped,
-            Err(fault) => Answer::Refused(fault),
-        }
+        self.drop_draft(ticket)
+            .map_or_else(Answer::Refused, |()| Answer::Dropped)
     }
 
     // Posts with the ticket at a place of the drawer; a refusal puts the ticket back.
@@ -74,7 +52,7 @@ impl<R: Register, C: Cohort> Cube<R, C> {
         booked: Day,
         terms: Terms,
     ) -> Answer
-        ensures { Served (desk_of R.Register.meaning C.Cohort.meaning self.old sheet.old drawer.old.items) (Request.Post place booked terms) (Ok result) (desk_of R.Register.meaning C.Cohort.meaning self.new sheet.new drawer.new.items) }
+        ensures { Served (desk_of R.meaning C.meaning self.old sheet.old drawer.old.items) (Request.Post place booked terms) (Ok result) (desk_of R.meaning C.meaning self.new sheet.new drawer.new.items) }
     {
         if place >= drawer.len() {
             return Answer::NoTicket;
@@ -91,7 +69,7 @@ impl<R: Register, C: Cohort> Cube<R, C> {
 
     // Draws a triangle on a sheet of its own.
     fn serve_query(&self, heap: Global, known: Day, valued: Day) -> Result<Answer, AllocError>
-        ensures { IfOk result (λ a. told a ≡ answer_of (state_of R.Register.meaning C.Cohort.meaning self.now) (Call.Query (sheet_length (C.Cohort.meaning self.now.cohort)) known valued)) }
+        ensures { IfOk result (λ a. told a ≡ answer_of (state_of R.meaning C.meaning self.now) (Call.Query (sheet_length (C.meaning self.now.cohort)) known valued)) }
     {
         let mut cells = vec![in heap; 0i64; sheet_length(&self.cohort)]?;
         match self.query(heap, known, valued, cells.as_mut_slice()) {
@@ -109,33 +87,40 @@ impl<R: Register, C: Cohort> Cube<R, C> {
         drawer: &mut Vec<Ticket>,
         request: Request,
     ) -> Result<Answer, AllocError>
-        ensures { Served (desk_of R.Register.meaning C.Cohort.meaning self.old sheet.old drawer.old.items) request result (desk_of R.Register.meaning C.Cohort.meaning self.new sheet.new drawer.new.items) }
+        ensures { Served (desk_of R.meaning C.meaning self.old sheet.old drawer.old.items) request result (desk_of R.meaning C.meaning self.new sheet.new drawer.new.items) }
     {
-        match request {
-            Request::Open { booked, claim_days } => {
-                Ok(opened_answer(self.open(sheet, booked, claim_days)))
-            }
+        let answer = match request {
+            Request::Open { booked, claim_days } => self
+                .open(sheet, booked, claim_days)
+                .map_or_else(Answer::Refused, Answer::Opened),
             Request::Movement {
                 kind,
                 booked,
                 claim,
                 terms,
-            } => Ok(booked_answer(self.movement(sheet, kind, booked, claim, terms))),
-            Request::Void { booked, number } => Ok(booked_answer(self.void(sheet, booked, number))),
+            } => self
+                .movement(sheet, kind, booked, claim, terms)
+                .map_or_else(Answer::Refused, Answer::Booked),
+            Request::Void { booked, number } => self
+                .void(sheet, booked, number)
+                .map_or_else(Answer::Refused, Answer::Booked),
             Request::Redate {
                 booked,
                 claim,
                 claim_days,
-            } => Ok(booked_answer(self.redate(sheet, booked, claim, claim_days))),
-            Request::Draft { number } => self.serve_draft(drawer, number),
+            } => self
+                .redate(sheet, booked, claim, claim_days)
+                .map_or_else(Answer::Refused, Answer::Booked),
+            Request::Draft { number } => self.serve_draft(drawer, number)?,
             Request::Post {
                 place,
                 booked,
                 terms,
-            } => Ok(self.serve_post(sheet, drawer, place, booked, terms)),
-            Request::Drop { place } => Ok(self.serve_drop(drawer, place)),
-            Request::Query { known, valued } => self.serve_query(heap, known, valued),
-        }
+            } => self.serve_post(sheet, drawer, place, booked, terms),
+            Request::Drop { place } => self.serve_drop(drawer, place),
+            Request::Query { known, valued } => self.serve_query(heap, known, valued)?,
+        };
+        Ok(answer)
     }
 
     // Makes the calls of a row one after the other, and tells what each was answered. A draft puts its ticket at the end of the
@@ -148,7 +133,7 @@ impl<R: Register, C: Cohort> Cube<R, C> {
         row: &[Request],
     ) -> Result<Vec<Answer>, Stopped>
         ensures whole { MatchResult result (λ answers. vec_len answers ≡ length row.now) (λ stopped. vec_len stopped.answers ≤ length row.now) }
-        ensures ran { MatchResult result (λ answers. Ran (desk_of R.Register.meaning C.Cohort.meaning self.old sheet.old drawer.old.items) row.now answers.items (desk_of R.Register.meaning C.Cohort.meaning self.new sheet.new drawer.new.items)) (λ stopped. Ran (desk_of R.Register.meaning C.Cohort.meaning self.old sheet.old drawer.old.items) row.now stopped.answers.items (desk_of R.Register.meaning C.Cohort.meaning self.new sheet.new drawer.new.items)) }
+        ensures ran { MatchResult result (λ answers. Ran (desk_of R.meaning C.meaning self.old sheet.old drawer.old.items) row.now answers.items (desk_of R.meaning C.meaning self.new sheet.new drawer.new.items)) (λ stopped. Ran (desk_of R.meaning C.meaning self.old sheet.old drawer.old.items) row.now stopped.answers.items (desk_of R.meaning C.meaning self.new sheet.new drawer.new.items)) }
     {
         let Ok(mut answers) = Vec::with_capacity(heap, row.len()) else {
             return Err(Stopped {
@@ -166,7 +151,7 @@ impl<R: Register, C: Cohort> Cube<R, C> {
 
     // Drops every ticket of a drawer, the last first, and so closes the draft that is open if one of them is its ticket.
     pub fn drop_all(&mut self, drawer: Vec<Ticket>)
-        ensures { state_of R.Register.meaning C.Cohort.meaning self.new ≡ dropped_all (state_of R.Register.meaning C.Cohort.meaning self.old) drawer.items }
+        ensures { state_of R.meaning C.meaning self.new ≡ dropped_all (state_of R.meaning C.meaning self.old) drawer.items }
     {
         let mut left = drawer;
         while let Some(ticket) = left.pop() {

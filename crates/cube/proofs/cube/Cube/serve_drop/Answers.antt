@@ -1,8 +1,7 @@
-use Rattle.std.proofs.Common.{vec_items, refl, ap, ◌∙◌, arith}
-use Rattle.cube.specs.declared.request.Answer.TheVariants as answer
+use Rattle.std.proofs.Common.{◌≡◌, vec_items, ap, ◌∙◌, arith, rules}
 use Rattle.cube.specs.Cubes.{desk_of}
-use Rattle.cube.specs.Model.{after_drop}
-use Rattle.cube.specs.Runs.{Told, told_of}
+use Rattle.cube.specs.Model.{State}
+use Rattle.cube.specs.Runs.{Told, told, told_of}
 use Rattle.cube.proofs.Desks.{drop_none, drop_served, ticket_at}
 use Rattle.cube.proofs.cube.Cube.serve_drop.Goals as goal
 
@@ -10,18 +9,11 @@ pub returns-then-place-len : goal.returns-then-place-len
 returns-then-place-len g c = λ sheet.
     drop_none (desk_of g.R.Register.meaning g.C.Cohort.meaning c.args.self.now sheet (vec_items c.args.drawer.now)) c.args.place (omega (arith, c.args.drawer.now.ok.0))
 
-pub returns-in-Ok : goal.returns-in-Ok
-returns-in-Ok g c = λ sheet.
+pub returns : goal.returns
+returns g c = λ sheet.
     let d = desk_of g.R.Register.meaning g.C.Cohort.meaning c.args.self.now sheet (vec_items c.args.drawer.now) in
     let at = ticket_at (vec_items c.args.drawer.now) c.args.place c.remove-ticket.result (omega (arith, c.args.drawer.now.ok.0)) c.remove-ticket.ensures.value in
-    drop_served d c.args.place c.remove-ticket.result at answer.Dropped
+    let answered : told c.map_or_else.result ≡ told_of (λ _. Told.Dropped) c.drop_draft.result = search rules in
+    drop_served d c.args.place c.remove-ticket.result at c.map_or_else.result
     (desk_of g.R.Register.meaning g.C.Cohort.meaning c.drop_draft.new.self sheet (vec_items c.remove-ticket.new.self))
-    (ap (told_of (λ _. Told.Dropped)) c.in-Ok.ensures.answer) (c.in-Ok.ensures.state ∙ ap (after_drop d.ledger.state) c.in-Ok.ensures.answer) refl c.remove-ticket.ensures.items
-
-pub returns-in-Err : goal.returns-in-Err
-returns-in-Err g c = λ sheet.
-    let d = desk_of g.R.Register.meaning g.C.Cohort.meaning c.args.self.now sheet (vec_items c.args.drawer.now) in
-    let at = ticket_at (vec_items c.args.drawer.now) c.args.place c.remove-ticket.result (omega (arith, c.args.drawer.now.ok.0)) c.remove-ticket.ensures.value in
-    drop_served d c.args.place c.remove-ticket.result at (answer.Refused c.in-Err.fault)
-    (desk_of g.R.Register.meaning g.C.Cohort.meaning c.drop_draft.new.self sheet (vec_items c.remove-ticket.new.self))
-    (ap (told_of (λ _. Told.Dropped)) c.in-Err.ensures.answer) (c.in-Err.ensures.state ∙ ap (after_drop d.ledger.state) c.in-Err.ensures.answer) refl c.remove-ticket.ensures.items
+    (answered ∙ ap (told_of (λ _. Told.Dropped)) c.drop_draft.ensures.answer) (ap (λ (s : State). record { state = s; sheet = sheet }) c.drop_draft.ensures.state) c.remove-ticket.ensures.items

@@ -17,7 +17,7 @@ returns-in-Ok g c =
     let at = ticket_at (vec_items a.drawer.now) a.place c.remove-ticket.result (omega (arith, a.drawer.now.ok.0)) c.remove-ticket.ensures.value in
     post_accepted (desk_of g.R.Register.meaning g.C.Cohort.meaning a.self.now a.sheet.now (vec_items a.drawer.now)) a.place a.booked a.terms c.remove-ticket.result at c.in-Ok.number
     (desk_of g.R.Register.meaning g.C.Cohort.meaning c.post.new.self c.post.new.sheet (vec_items c.remove-ticket.new.self))
-    c.in-Ok.ensures.answer c.post.ensures.state c.post.ensures.sheet c.remove-ticket.ensures.items
+    c.in-Ok.ensures.answer c.post.ensures.ledger c.remove-ticket.ensures.items
 
 pub returns-in-Err : goal.returns-in-Err
 returns-in-Err g c =
@@ -25,5 +25,5 @@ returns-in-Err g c =
     let at = ticket_at (vec_items a.drawer.now) a.place c.remove-ticket.result (omega (arith, a.drawer.now.ok.0)) c.remove-ticket.ensures.value in
     post_refused (desk_of g.R.Register.meaning g.C.Cohort.meaning a.self.now a.sheet.now (vec_items a.drawer.now)) a.place a.booked a.terms c.remove-ticket.result c.in-Err.ticket at (omega (arith, a.drawer.now.ok.0)) c.remove-ticket.ensures.value c.in-Err.fault
     (desk_of g.R.Register.meaning g.C.Cohort.meaning c.post.new.self c.post.new.sheet (vec_items c.insert.new.self))
-    c.in-Err.ensures.answer c.post.ensures.state c.post.ensures.sheet
+    c.in-Err.ensures.answer c.post.ensures.ledger
     (c.insert.ensures.items ∙ cond-true _ _ _ (ap is_ok c.unwrap.ensures) ∙ ap (λ (xs : List Ticket). insert xs a.place c.in-Err.ticket) c.remove-ticket.ensures.items)
