@@ -4,3 +4,4 @@ pub mod Laying
 pub mod Growing
 pub mod Walking
 pub mod Kept
+pub mod Listing

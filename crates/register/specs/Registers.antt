@@ -1,5 +1,5 @@
 -- What a register means, and what its questions and its adding answer. Assumes nothing.
-use Rattle.std.specs.Prelude.{◌≡◌, ℕ, ◌+◌, ◌≤◌, Bool, true, cond, ◌&&◌, List, [], ◌∷◌, ◌++◌, length, drop, Some, None, Ok, Err, Option, Result, ◌==◌, nat_le}
+use Rattle.std.specs.Prelude.{◌≡◌, ℕ, ◌+◌, ◌≤◌, Bool, true, cond, ◌&&◌, List, [], ◌∷◌, ◌++◌, length, drop, filter, Some, None, Ok, Err, Option, Result, ◌==◌, nat_le}
 use Rattle.register.specs.declared.entry.Entry.{Entry}
 use Rattle.register.specs.declared.fault.AddFault.{AddFault}
 use Rattle.register.specs.declared.fault.AddFault.TheVariants.{NoSuchClaim, Full}
@@ -34,6 +34,19 @@ first_of (e ∷ es) claim n = cond (e.claim == claim) (Some (record { number = n
 -- the first entry of the claim after a number
 abbrev pub next_in : List Entry → (claim after : ℕ) → Option NumberedEntry
 next_in es claim after = first_of (drop after es) claim after
+
+-- the entries of a list whose first entry is numbered n + 1, with their numbers
+abbrev pub numbered_from : (n : ℕ) → List Entry → List NumberedEntry
+numbered_from n [] = []
+numbered_from n (e ∷ es) = record { number = n + 1; entry = e } ∷ numbered_from (n + 1) es
+
+-- the entries after a number, with their numbers
+abbrev pub entries_after : List Entry → (after : ℕ) → List NumberedEntry
+entries_after es after = numbered_from after (drop after es)
+
+-- those of a claim
+abbrev pub claim_entries_after : List Entry → (claim after : ℕ) → List NumberedEntry
+claim_entries_after es claim after = filter (λ x. x.entry.claim == claim) (entries_after es after)
 
 -- adding is refused for a claim that the register does not take, then where it is full; else it tells the entry's number
 abbrev pub add_answer : Meaning → Entry → Result ℕ AddFault

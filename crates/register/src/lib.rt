@@ -4,6 +4,7 @@
 mod adding;
 pub mod bounded;
 pub mod cards;
+pub mod entries;
 pub mod entry;
 pub mod fault;
 pub mod figures;
