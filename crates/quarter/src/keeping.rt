@@ -1,7 +1,7 @@
 // Keeping the book on a register.
 use crate::rows::Rows;
 use crate::step::Step;
-use anyhow::anyhow;
+use anyhow::{Context, anyhow};
 use cube::cube::Cube;
 use cube::request::{Answer, Request};
 use cube::sheet::sheet_length;
@@ -39,7 +39,7 @@ impl<R: Register + Drop> Desk<R> {
         let mut sheet = vec![in heap; 0i64; sheet_length(&cohort)]?;
         let mut cube = Cube::new(register, cohort);
         cube.start(sheet.as_mut_slice(), MARK)
-            .map_err(|_| anyhow!("the cube does not start"))?;
+            .context("the cube does not start")?;
         Ok(Desk {
             heap,
             cube,

@@ -2,11 +2,11 @@
 use crate::asking::{opening, payment, post, query, redating, reserve, void};
 use crate::step::Step;
 use cube::request::Request;
-use values::fault::ValueFault;
+use std::alloc::Global;
 
 // What is asked in January.
-pub fn january() -> Result<[Step; 8], ValueFault> {
-    Ok([
+pub fn january(heap: Global) -> anyhow::Result<Vec<Step>> {
+    Ok(vec![in heap;
         Step::told(
             "January. A loss of 30 December is reported on 8 January. At the year's end nobody knew of it.",
             opening(20240109, 20231101, 20231230, 20240108)?,
@@ -30,12 +30,12 @@ pub fn january() -> Result<[Step; 8], ValueFault> {
             payment(20240117, 3, 20231229, 120_000)?,
         ),
         reserve(20240117, 3, 20231229, -120_000)?.into(),
-    ])
+    ]?)
 }
 
 // What is asked in February: corrections.
-pub fn february() -> Result<[Step; 8], ValueFault> {
-    Ok([
+pub fn february(heap: Global) -> anyhow::Result<Vec<Step>> {
+    Ok(vec![in heap;
         Step::told(
             "February. Entry 17 says 4,150.00; the bank says 1,450.00. A correction is drafted.",
             Request::Draft { number: 17 },
@@ -68,12 +68,12 @@ pub fn february() -> Result<[Step; 8], ValueFault> {
             ".. but the invoice turns out to be right, and the draft is dropped. Nothing is booked.",
             Request::Drop { place: 0 },
         ),
-    ])
+    ]?)
 }
 
 // What is asked in March.
-pub fn march() -> Result<[Step; 8], ValueFault> {
-    Ok([
+pub fn march(heap: Global) -> anyhow::Result<Vec<Step>> {
+    Ok(vec![in heap;
         Step::told(
             "March. A payment on claim 6 ..",
             payment(20240305, 6, 20240304, 90_000)?,
@@ -103,12 +103,12 @@ pub fn march() -> Result<[Step; 8], ValueFault> {
             "A last draft. It is still open when the quarter ends.",
             Request::Draft { number: 5 },
         ),
-    ])
+    ]?)
 }
 
 // What is asked at the end of March.
-pub fn queries() -> Result<[Step; 3], ValueFault> {
-    Ok([
+pub fn queries(heap: Global) -> anyhow::Result<Vec<Step>> {
+    Ok(vec![in heap;
         Step::told(
             "The triangles as they are known today.",
             query(20240331, 20240331)?,
@@ -121,5 +121,5 @@ pub fn queries() -> Result<[Step; 3], ValueFault> {
             "The end of last year, with what is known today.",
             query(20240331, 20231231)?,
         ),
-    ])
+    ]?)
 }

@@ -15,8 +15,8 @@ pub struct Rows {
 // Makes the requests of the numbers that are written in the program.
 pub fn make_rows(heap: Global) -> anyhow::Result<Rows> {
     Ok(Rows {
-        book: [year_2021()?, year_2022()?, year_2023()?].concat(heap)?,
-        quarter: [january()?, february()?, march()?].concat(heap)?,
-        queries: Vec::from_array(heap, queries()?)?,
+        book: [year_2021(heap)?, year_2022(heap)?, year_2023(heap)?].concat(heap)?,
+        quarter: [january(heap)?, february(heap)?, march(heap)?].concat(heap)?,
+        queries: queries(heap)?,
     })
 }

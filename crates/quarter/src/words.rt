@@ -1,6 +1,5 @@
 // Requests and answers in words.
 use crate::step::Step;
-use cube::fault::CallFault;
 use cube::request::{Answer, Request};
 use cube::ticket::Opened;
 use register::entry::Terms;
@@ -83,28 +82,6 @@ fn write_movement<W: fmt::Write>(
     }
 }
 
-// Why a call was refused.
-fn reason(fault: CallFault) -> &'static str {
-    match fault {
-        CallFault::SheetLength => "the sheet has another length",
-        CallFault::RegisterNotEmpty => "the register has entries already",
-        CallFault::NoRoom => "the register takes no entry or no claim",
-        CallFault::BookedEarlier => "the last entry has a later booking day",
-        CallFault::RegisterFull => "the register is full",
-        CallFault::ClaimsUsedUp => "the register takes no further claim",
-        CallFault::DaysOutOfOrder => "inception, occurrence and report are not in this order",
-        CallFault::AfterBooking => "the day is after the booking day",
-        CallFault::NoSuchClaim => "no such claim was opened",
-        CallFault::BeforeReport => "the effective day is before the claim's report day",
-        CallFault::NoSuchEntry => "there is no such entry",
-        CallFault::NotAMovement => "the entry is no payment, reserve change or correction",
-        CallFault::NotStanding => "the entry was corrected or voided",
-        CallFault::UnderDraft => "a draft is open on the entry, or on another one",
-        CallFault::NotTheDraft => "the ticket is not that of the open draft",
-        CallFault::MovementBeforeReport => "a movement is before the new report day",
-    }
-}
-
 // What was answered, in words.
 #[derive(Clone, Copy)]
 struct Answered<'a>(&'a Answer);
@@ -125,8 +102,7 @@ impl fmt::Display for Answered<'_> {
             }
             Answer::Refused(fault) => {
                 let number = fault.number();
-                let reason = reason(*fault);
-                write!(f, "REFUSED, number {number}: {reason}")
+                write!(f, "REFUSED, number {number}: {fault}")
             }
             Answer::NoTicket => write!(
                 f,
