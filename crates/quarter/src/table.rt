@@ -56,17 +56,17 @@ impl<C: LabelledCohort> Shown<'_, C> {
         row_cells(self.cohort, self.cells, measure, row)
     }
 
+    // The day on which a row begins.
+    fn first_day(&self, row: u32) -> Option<Day> {
+        let label = self.cohort.label(row)?;
+        Day::new(u64::from(label) * 100 + 1).ok()
+    }
+
     // How many columns of a row have begun by the value day. The others are still to come, and are not shown.
     fn begun(&self, row: u32) -> usize {
-        let Some(label) = self.cohort.label(row) else {
+        let Some(first) = self.first_day(row).filter(|first| *first <= self.valued) else {
             return 0;
         };
-        let Ok(first) = Day::new(u64::from(label) * 100 + 1) else {
-            return 0;
-        };
-        if self.valued < first {
-            return 0;
-        }
         let claim_days = ClaimDays {
             inception: first,
             occurrence: first,
@@ -95,8 +95,7 @@ impl<C: LabelledCohort> Shown<'_, C> {
     fn show_figures(&self, what: &str, measure: Measure, figures: &[i64]) -> anyhow::Result<()> {
         let rt = self.rt;
         print!(rt; "  {what:<20}")?;
-        for cell in figures {
-            let cell = *cell;
+        for &cell in figures {
             let figure = Figure { measure, cell };
             print!(rt; "  {figure:>11}")?;
         }
@@ -171,18 +170,19 @@ impl<C: LabelledCohort> Shown<'_, C> {
         let rt = self.rt;
         rt.println(BESIDE)?;
         for row in 0..self.cohort.rows() {
-            if let Some(label) = self.cohort.label(row) {
-                print!(rt; "  {label}")?;
-                for measure in MEASURES {
-                    if let (Some(then), Some(today)) = (
-                        self.total(measure, row),
-                        later.total(measure, row),
-                    ) {
-                        print!(rt; "  {then:>11}  {today:>11}")?;
-                    }
+            let Some(label) = self.cohort.label(row) else {
+                continue;
+            };
+            print!(rt; "  {label}")?;
+            for measure in MEASURES {
+                if let (Some(then), Some(today)) = (
+                    self.total(measure, row),
+                    later.total(measure, row),
+                ) {
+                    print!(rt; "  {then:>11}  {today:>11}")?;
                 }
-                println!(rt)?;
             }
+            println!(rt)?;
         }
         Ok(())
     }

@@ -43,14 +43,7 @@ impl fmt::Display for Asked {
                 place,
                 booked,
                 terms,
-            } => {
-                let Terms { effective, amount } = terms;
-                let amount = Money(amount.cents());
-                write!(
-                    f,
-                    "post the draft of the ticket at place {place}: {amount} on {effective}; booked on {booked}"
-                )
-            }
+            } => write_post(f, place, booked, terms),
             Request::Drop { place } => write!(f, "drop the draft of the ticket at place {place}"),
             Request::Query { known, valued } => write!(
                 f,
@@ -80,6 +73,21 @@ fn write_movement<W: fmt::Write>(
             "change the case reserve of claim {claim} by {amount} as of {effective}; booked on {booked}"
         ),
     }
+}
+
+// Writes a post in words.
+fn write_post<W: fmt::Write>(
+    f: &mut fmt::Formatter<W>,
+    place: usize,
+    booked: Day,
+    terms: Terms,
+) -> fmt::Result {
+    let Terms { effective, amount } = terms;
+    let amount = Money(amount.cents());
+    write!(
+        f,
+        "post the draft of the ticket at place {place}: {amount} on {effective}; booked on {booked}"
+    )
 }
 
 // What was answered, in words.

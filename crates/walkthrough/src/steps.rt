@@ -24,7 +24,7 @@ fn show_day(rt: &HostRuntime, name: &str, number: u64) -> io::Result<()> {
         Ok(day) => println!(rt; "the day {day}"),
         Err(fault) => {
             let number = fault.number();
-            println!(rt; "refused with {number}: no day of the calendar from 1900 to 2199")
+            println!(rt; "refused with {number}: {fault}")
         }
     }
 }
