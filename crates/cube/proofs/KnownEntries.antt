@@ -1,15 +1,15 @@
 -- The first entries of a list, and one entry more. Assumes nothing.
-use Rattle.std.proofs.Common.{◌≡◌, ℕ, zero, suc, ◌+◌, ◌-◌, ◌<◌, ◌≤◌, true, cond, eqb, List, [], ◌∷◌, ◌++◌, length, get_or, take, drop, Some, None, IfSome, OnSome, Option, sym, refl, ap, ◌∙◌, inl, inr, arith}
-use Rattle.std.proofs.lemmas.List.{drop_more, length-take, length-take-le, take_all, take_more}
+use Rattle.std.proofs.Common.{◌≡◌, ℕ, zero, suc, ◌+◌, ◌-◌, ◌<◌, ◌≤◌, true, eqb, List, [], ◌∷◌, ◌++◌, length, get_or, take, drop, filter, Some, None, IfSome, OnSome, Option, sym, refl, ap, ◌∙◌, inl, inr, arith}
+use Rattle.std.proofs.lemmas.List.{drop_more, length-take, length-take-le, take_more}
 use Rattle.std.proofs.lemmas.Option.{slice_get-get_or, slice_get_past as nth_past}
-use Rattle.std.proofs.lemmas.List.Sums.{sum_by_push}
+use Rattle.std.proofs.lemmas.List.Sums.{length-filter}
 use Rattle.std.proofs.lemmas.Bool.{cases_Bool, cases_lt, cond-true, cond-false, eqb-false, ne_eqb}
 use Rattle.std.specs.List.{slice_get}
 use Rattle.values.specs.declared.day.Day.{Day}
 use Rattle.register.specs.Entries.{entry_in}
-use Rattle.register.specs.Registers.{Meaning, claims_known, is_claim}
+use Rattle.register.specs.Registers.{Meaning, claims_known, is_claim, numbered_from}
 use Rattle.register.specs.declared.entry.Entry.{Entry}
-use Rattle.cube.specs.Queries.{booked_by, is_booked_at, is_booked_by}
+use Rattle.cube.specs.Queries.{booked_by, is_booked_by}
 use Rattle.cube.proofs.KnownClaims.{entry_known}
 
 nth_within : (count : ℕ) (es : List Entry) (i : ℕ) → i < count → slice_get (take count es) i ≡ slice_get es i
@@ -95,12 +95,18 @@ no_next es i is =
     some_not_none (x ∷ xs) zero h at = let no : ◌≡◌ {A = ℕ} 0 1 = cc in omega arith
     some_not_none (x ∷ xs) (suc k) h at = some_not_none xs k (omega arith) at
 
--- how many are booked by a day, with one entry more
-pub booked_more : (day : Day) (es : List Entry) (i : ℕ) → booked_by day (take (i + 1) es) ≡ booked_by day (take i es) + cond (is_booked_at day (entry_in es (i + 1))) 1 0
-booked_more day es i = by (entry_in es (i + 1)) refl
+-- the entries with their numbers: as many as there are, and as many of them booked by a day
+pub length-numbered_from : (n : ℕ) (es : List Entry) → length (numbered_from n es) ≡ length es
+length-numbered_from n [] = refl
+length-numbered_from n (e ∷ es) = ap suc (length-numbered_from (n + 1) es)
+
+pub booked_listed : (day : Day) (es : List Entry) → length (filter (λ x. is_booked_by day x.entry) (numbered_from 0 es)) ≡ booked_by day es
+booked_listed day es = filtered 0 es ∙ length-filter (is_booked_by day) es
   where
-    by : (o : Option Entry) → o ≡ entry_in es (i + 1) → booked_by day (take (i + 1) es) ≡ booked_by day (take i es) + cond (is_booked_at day o) 1 0
-    by None is =
-        let past = no_next es i is in
-        ap (booked_by day) (take_all (i + 1) es (omega arith) ∙ sym (take_all i es past)) ∙ omega arith
-    by (Some e) is = ap (booked_by day) (next_entry es i e is).front ∙ sum_by_push (λ x. cond (is_booked_by day x) 1 0) (take i es) e
+    filtered : (n : ℕ) (xs : List Entry) → length (filter (λ x. is_booked_by day x.entry) (numbered_from n xs)) ≡ length (filter (is_booked_by day) xs)
+    filtered n [] = refl
+    filtered n (e ∷ xs) =
+        elim (cases_Bool (is_booked_by day e)) [
+          | inl known ↦ ap length (cond-true _ _ _ known) ∙ ap suc (filtered (n + 1) xs) ∙ sym (ap length (cond-true _ _ _ known))
+          | inr other ↦ ap length (cond-false _ _ _ other) ∙ filtered (n + 1) xs ∙ sym (ap length (cond-false _ _ _ other))
+        ]

@@ -11,6 +11,7 @@ pub mod Reached
 pub mod Cells
 pub mod InTime
 pub mod Joins
+pub mod Adding
 pub mod Bounds
 pub mod Known
 pub mod Rows

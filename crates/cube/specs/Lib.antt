@@ -1,6 +1,7 @@
 pub mod Booking
 pub mod Brings
 pub mod Calls
+pub mod Cells
 pub mod Cubes
 pub mod Faults
 pub mod Figures

@@ -1,5 +1,5 @@
 -- A query: the triangle as it was known on a day. Assumes nothing.
-use Rattle.std.specs.Prelude.{◌≡◌, ℕ, Bool, false, not, List, [], length, take, ℤ, Some, None, Ok, Err, count_by, Option, Result, ◌==◌, nat_le}
+use Rattle.std.specs.Prelude.{◌≡◌, ℕ, Bool, not, List, [], length, take, ℤ, Some, None, Ok, Err, count_by, Option, Result, ◌==◌, nat_le}
 use Rattle.values.specs.Cohorts.{Meaning}
 use Rattle.values.specs.declared.day.Day.{Day}
 use Rattle.register.specs.declared.entry.Entry.{Entry}
@@ -14,11 +14,6 @@ use Rattle.cube.specs.Triangles.{triangle_part, triangle_sheet}
 -- the entry was booked on or before the day
 abbrev pub is_booked_by : Day → Entry → Bool
 is_booked_by day e = nat_le e.booked.number day.number
-
--- there is an entry, and it was
-abbrev pub is_booked_at : Day → Option Entry → Bool
-is_booked_at day None = false
-is_booked_at day (Some e) = is_booked_by day e
 
 -- how many entries were booked on or before the day
 abbrev pub booked_by : Day → List Entry → ℕ

@@ -43,12 +43,9 @@ pub fn beyond_cell<C: Cohort>(cohort: &C, sheet: &[i64], measure: Measure) -> Op
 pub fn running_sum(row: &[i64], n: usize) -> i64
     ensures { result ≡ running_sum row.now n }
 {
-    let first = &row[0..n.min(row.len())];
-    let mut sum = 0i64;
-    for cell in first {
-        sum = sum.wrapping_add(*cell);
-    }
-    sum
+    row.iter()
+        .take(n)
+        .fold(0i64, |sum, cell| sum.wrapping_add(*cell))
 }
 
 // The running sums along a row, each of the cells up to its own.
@@ -56,8 +53,10 @@ pub fn running_sums(heap: Global, row: &[i64]) -> Result<Vec<i64>, AllocError>
     ensures { IfOk result (λ v. v.items ≡ running_sums row.now) }
 {
     let mut sums = Vec::new(heap);
-    for column in 0..row.len() {
-        sums.push(running_sum(row, column + 1))?;
+    let mut total = 0i64;
+    for cell in row {
+        total = total.wrapping_add(*cell);
+        sums.push(total)?;
     }
     Ok(sums)
 }

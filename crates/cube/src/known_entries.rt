@@ -4,12 +4,13 @@ ghost use Rattle.register.specs.Entries.{claim_days_in, entry_in, kind_in};
 ghost use Rattle.register.specs.Registers.{is_claim};
 ghost use Rattle.cube.specs.Known.{first_entries};
 ghost use Rattle.cube.specs.Queries.{part_at};
-ghost use Rattle.cube.specs.Sheets.{added_all, sheet_length};
+ghost use Rattle.cube.specs.Cells.{Adds};
 ghost use Rattle.cube.specs.Tables.{is_replaced_in};
 ghost use Rattle.cube.specs.Triangles.{triangle};
 
-use crate::brings::{Placing, add_count, add_terms};
+use crate::brings::Placing;
 use crate::reading::{entry_among, kind_among};
+use crate::sheet::Cells;
 use crate::tables::Tables;
 use crate::terms::{Direction, terms_of};
 use register::entry::Entry;
@@ -87,9 +88,8 @@ impl<'a, R: Register> KnownEntries<'a, R> {
     }
 
     // Adds what the entry with a number has in the triangle: the count of an opening, or a movement that stands.
-    fn add_part<C: Cohort>(&self, cohort: &C, sheet: &mut [i64], valued: Option<Day>, number: u32)
-        requires { length sheet.old ≡ sheet_length (C.meaning cohort.now) }
-        ensures { sheet.new ≡ added_all sheet.old (part_at (C.meaning cohort.now) valued self.now.entries number (entry_in self.now.entries number)) }
+    fn add_part<C: Cohort>(&self, cells: &mut Cells<'_, C>, valued: Option<Day>, number: u32)
+        ensures { Adds cells.old cells.new (part_at (C.meaning cells.old.cohort.now) valued self.now.entries number (entry_in self.now.entries number)) }
     {
         let Some(entry) = self.entry(number) else {
             return;
@@ -97,32 +97,21 @@ impl<'a, R: Register> KnownEntries<'a, R> {
         let Some(claim_days) = self.claim_days(entry.claim) else {
             return;
         };
-        let direction = Direction::Added;
-        let placing = Placing {
-            valued,
-            claim_days,
-            direction,
-        };
+        let placing = Placing { valued, claim_days };
         if entry.is_opening() {
-            add_count(cohort, sheet, placing);
+            cells.add_count(placing, Direction::Added);
         } else if entry.is_movement() && !self.is_replaced(number) {
-            add_terms(
-                cohort,
-                sheet,
-                placing,
-                self.kind(number),
-                terms_of(entry.content),
-            );
+            let kind = self.kind(number);
+            cells.add_terms(placing, Direction::Added, kind, terms_of(entry.content));
         }
     }
 
     // Adds the triangle of these entries.
-    pub(crate) fn add_triangle<C: Cohort>(&self, cohort: &C, sheet: &mut [i64], valued: Option<Day>)
-        requires { length sheet.old ≡ sheet_length (C.meaning cohort.now) }
-        ensures { sheet.new ≡ added_all sheet.old (triangle (C.meaning cohort.now) valued self.now.entries) }
+    pub(crate) fn add_triangle<C: Cohort>(&self, cells: &mut Cells<'_, C>, valued: Option<Day>)
+        ensures { Adds cells.old cells.new (triangle (C.meaning cells.old.cohort.now) valued self.now.entries) }
     {
         for before in 0..self.tables.count {
-            self.add_part(cohort, sheet, valued, before + 1);
+            self.add_part(cells, valued, before + 1);
         }
     }
 }

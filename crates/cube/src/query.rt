@@ -1,29 +1,24 @@
 // The entries known on a day.
 ghost use Rattle.std.specs.Prelude.{◌≡◌};
-ghost use Rattle.register.specs.Entries.{entry_in};
-ghost use Rattle.cube.specs.Queries.{booked_by, is_booked_at};
+ghost use Rattle.cube.specs.Queries.{booked_by, is_booked_by};
 
+use register::entries::all_entries;
+use register::entry::Entry;
 use register::register::Register;
 use values::day::Day;
 
-// Whether the entry with a number was booked on or before a day.
-fn is_booked_by<R: Register>(register: &R, number: u32, day: Day) -> bool
-    ensures { result ≡ is_booked_at day (entry_in (R.meaning register.now).entries number) }
+// Whether an entry was booked on or before a day.
+fn is_booked_by(entry: Entry, day: Day) -> bool
+    ensures { result ≡ is_booked_by day entry }
 {
-    register
-        .entry(number)
-        .is_some_and(|entry| entry.booked <= day)
+    entry.booked <= day
 }
 
 // How many entries were booked on or before a day.
 pub(crate) fn booked_by<R: Register>(register: &R, day: Day) -> u32
     ensures { result ≡ booked_by day (R.meaning register.now).entries }
 {
-    let mut count = 0;
-    for before in 0..register.len() {
-        if is_booked_by(register, before + 1, day) {
-            count += 1;
-        }
-    }
-    count
+    all_entries(register)
+        .filter(|known| is_booked_by(known.entry, day))
+        .count() as u32
 }

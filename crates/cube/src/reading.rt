@@ -3,6 +3,7 @@ ghost use Rattle.std.specs.Prelude.{◌≡◌, true, take, drop, OnSome};
 ghost use Rattle.register.specs.Registers.{is_claim};
 ghost use Rattle.register.specs.Entries.{claim_days_in, days_after, entry_in, kind_in, stands_in, replaces, is_number, named_by};
 
+use register::entries::claim_entries;
 use register::entry::{Content, Entry};
 use register::kind::MovementKind;
 use register::register::Register;
@@ -23,13 +24,7 @@ pub fn claim_days_in_force<R: Register>(register: &R, claim: u32) -> Option<Clai
     ensures value { result ≡ claim_days_in (R.meaning register.now).entries claim }
     ensures known { OnSome result (is_claim (R.meaning register.now).bound claim ≡ true) }
 {
-    let mut days = None;
-    let mut after = 0;
-    while let Some(found) = register.next_of_claim(claim, after) {
-        days = days_after(days, found.entry);
-        after = found.number;
-    }
-    days
+    claim_entries(register, claim, 0).fold(None, |days, found| days_after(days, found.entry))
 }
 
 // Whether the entry corrects or voids the entry with a number.
@@ -43,14 +38,7 @@ fn names(entry: Entry, number: u32) -> bool
 pub fn is_replaced<R: Register>(register: &R, claim: u32, number: u32) -> bool
     ensures { result ≡ replaces (drop number (R.meaning register.now).entries) claim number }
 {
-    let mut after = number;
-    while let Some(found) = register.next_of_claim(claim, after) {
-        if names(found.entry, number) {
-            return true;
-        }
-        after = found.number;
-    }
-    false
+    claim_entries(register, claim, number).any(|found| names(found.entry, number))
 }
 
 // Whether the entry with a number is a movement that stands.

@@ -66,41 +66,54 @@ fn add_at(sheet: &mut [i64], cell: usize, change: Change)
     sheet[cell] = sheet[cell].wrapping_add(change.cents);
 }
 
-// Adds a movement's change at the place of its effective day: to paid and incurred, or to incurred only.
-pub(crate) fn add_movement<C: Cohort>(
-    cohort: &C,
-    sheet: &mut [i64],
-    kind: MovementKind,
-    claim_days: ClaimDays,
-    effective: Day,
-    change: Change,
-)
-    requires { length sheet.old ≡ sheet_length (C.meaning cohort.now) }
-    ensures { sheet.new ≡ added_all sheet.old (movement_shares (C.meaning cohort.now) kind claim_days effective change.cents) }
-{
-    let incurred = cell_at(cohort, Measure::Incurred, claim_days, effective);
-    match kind {
-        MovementKind::Paid => {
-            let paid = cell_at(cohort, Measure::Paid, claim_days, effective);
-            add_at(sheet, paid, change);
-            add_at(sheet, incurred, change);
-        }
-        MovementKind::Reserved => {
-            add_at(sheet, incurred, change);
-        }
-    }
+// A sheet that is lent, with the cohort that gives it its length.
+#[derive(Drop)]
+pub(crate) struct Cells<'a, C: Cohort> {
+    pub(crate) cohort: &'a C,
+    pub(crate) cells: &'a mut [i64],
+    ghost whole: { length cells.now ≡ sheet_length (C.meaning cohort.now) },
 }
 
-// Adds to the count at the place of the claim's report day.
-pub(crate) fn add_claim<C: Cohort>(
-    cohort: &C,
-    sheet: &mut [i64],
-    claim_days: ClaimDays,
-    change: Change,
-)
-    requires { length sheet.old ≡ sheet_length (C.meaning cohort.now) }
-    ensures { sheet.new ≡ added_all sheet.old (claim_shares (C.meaning cohort.now) claim_days change.cents) }
-{
-    let count = cell_at(cohort, Measure::Count, claim_days, claim_days.report);
-    add_at(sheet, count, change);
+impl<'a, C: Cohort> Cells<'a, C> {
+    ghost use Rattle.cube.specs.Cells.{Adds};
+
+    pub(crate) fn new(cohort: &'a C, cells: &'a mut [i64]) -> Cells<'a, C>
+        requires { length cells.old ≡ sheet_length (C.meaning cohort.now) }
+        ensures lent { result.cells.ghost_name ≡ cells.entry.ghost_name }
+        ensures cohort { result.cohort.now ≡ cohort.now }
+        ensures cells { result.cells.now ≡ cells.old }
+    {
+        Cells { cohort, cells }
+    }
+
+    // Adds a movement's change at the place of its effective day: to paid and incurred, or to incurred only.
+    pub(crate) fn add_movement(
+        &mut self,
+        kind: MovementKind,
+        claim_days: ClaimDays,
+        effective: Day,
+        change: Change,
+    )
+        ensures { Adds self.old self.new (movement_shares (C.meaning self.old.cohort.now) kind claim_days effective change.cents) }
+    {
+        let incurred = cell_at(self.cohort, Measure::Incurred, claim_days, effective);
+        match kind {
+            MovementKind::Paid => {
+                let paid = cell_at(self.cohort, Measure::Paid, claim_days, effective);
+                add_at(self.cells, paid, change);
+                add_at(self.cells, incurred, change);
+            }
+            MovementKind::Reserved => {
+                add_at(self.cells, incurred, change);
+            }
+        }
+    }
+
+    // Adds to the count at the place of the claim's report day.
+    pub(crate) fn add_claim(&mut self, claim_days: ClaimDays, change: Change)
+        ensures { Adds self.old self.new (claim_shares (C.meaning self.old.cohort.now) claim_days change.cents) }
+    {
+        let count = cell_at(self.cohort, Measure::Count, claim_days, claim_days.report);
+        add_at(self.cells, count, change);
+    }
 }

@@ -5,7 +5,7 @@ ghost use Rattle.cube.specs.Cubes.{state_of};
 ghost use Rattle.cube.specs.Model.{sheet_after, state_after};
 
 use super::Cube;
-use crate::brings::add_brought;
+use crate::sheet::Cells;
 use register::entry::Entry;
 use register::register::Register;
 use values::cohort::Cohort;
@@ -18,7 +18,8 @@ impl<R: Register, C: Cohort> Cube<R, C> {
         ensures state { state_of R.meaning C.meaning self.new ≡ state_after (state_of R.meaning C.meaning self.old) (Ok entry) }
         ensures sheet { sheet.new ≡ sheet_after (state_of R.meaning C.meaning self.old) (Ok entry) sheet.old }
     {
-        add_brought(&self.register, &self.cohort, sheet, None, entry);
+        let mut cells = Cells::new(&self.cohort, sheet);
+        cells.add_brought(&self.register, None, entry);
         self.register.add(entry).unwrap()
     }
 }

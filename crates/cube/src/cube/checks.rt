@@ -12,6 +12,7 @@ use crate::fault::CallFault;
 use crate::reading::stands;
 use crate::sheet::sheet_length;
 use crate::terms::terms_of;
+use register::entries::claim_entries;
 use register::entry::Entry;
 use register::numbered::NumberedEntry;
 use register::register::Register;
@@ -88,14 +89,7 @@ fn is_earlier<R: Register>(register: &R, report: Day, found: NumberedEntry) -> b
 pub(super) fn moved_before<R: Register>(register: &R, claim: u32, report: Day) -> bool
     ensures { result ≡ moved_before_from (R.meaning register.now).entries claim report 0 (R.meaning register.now).entries }
 {
-    let mut after = 0;
-    while let Some(found) = register.next_of_claim(claim, after) {
-        if is_earlier(register, report, found) {
-            return true;
-        }
-        after = found.number;
-    }
-    false
+    claim_entries(register, claim, 0).any(|found| is_earlier(register, report, found))
 }
 
 impl<R: Register, C: Cohort> Cube<R, C> {

@@ -6,6 +6,7 @@ use super::Cube;
 use crate::fault::QueryFault;
 use crate::known_entries::KnownEntries;
 use crate::query::booked_by;
+use crate::sheet::Cells;
 use register::register::Register;
 use std::alloc::Global;
 use values::cohort::Cohort;
@@ -27,7 +28,8 @@ impl<R: Register, C: Cohort> Cube<R, C> {
         let count = booked_by(&self.register, known);
         let entries = KnownEntries::of(heap, &self.register, count)?;
         answer.fill(0);
-        entries.add_triangle(&self.cohort, answer, Some(valued));
+        let mut cells = Cells::new(&self.cohort, answer);
+        entries.add_triangle(&mut cells, Some(valued));
         Ok(())
     }
 }

@@ -1,27 +1,14 @@
-use Rattle.std.proofs.Common.{sym, ◌∙◌, arith}
-use Rattle.std.proofs.lemmas.Bool.{cond-true, cond-false}
-use Rattle.cube.proofs.Claims.{moved_some, moved_none}
+use Rattle.std.proofs.Common.{◌∙◌, rules, tests}
+use Rattle.std.proofs.lemmas.Iterator.Consumers.{YieldsList-from_first}
+use Rattle.std.proofs.lemmas.Iterator.Search.{any_from_yields_List}
+use Rattle.register.specs.Iterators.{claim_entries_left}
+use Rattle.cube.specs.Model.{earlier_movement}
+use Rattle.cube.proofs.Claims.{moved_any}
 use Rattle.cube.proofs.cube.checks.moved_before.Goals as goal
-
-pub returns-then-is_earlier : goal.returns-then-is_earlier
-returns-then-is_earlier g c =
-    let es = (g.R.Register.meaning c.args.register.now).entries in
-    let on = moved_some es c.args.claim c.args.report c.loop-found.after c.in-Some.found c.in-Some.ensures in
-    sym (on.0 ∙ cond-true _ _ _ (sym c.is_earlier.ensures ∙ c.if-is_earlier.true)) ∙ c.loop-found.invariant
-
-pub loop-found-smaller : goal.loop-found-smaller
-loop-found-smaller g c =
-    let es = (g.R.Register.meaning c.args.register.now).entries in
-    let on = moved_some es c.args.claim c.args.report c.loop-found.after c.in-Some.found c.in-Some.ensures in
-    omega (arith, on.1, on.2)
-
-pub loop-found-preserved : goal.loop-found-preserved
-loop-found-preserved g c =
-    let es = (g.R.Register.meaning c.args.register.now).entries in
-    let on = moved_some es c.args.claim c.args.report c.loop-found.after c.in-Some.found c.in-Some.ensures in
-    sym (on.0 ∙ cond-false _ _ _ (sym c.is_earlier.ensures ∙ c.if-is_earlier.false)) ∙ c.loop-found.invariant
 
 pub returns : goal.returns
 returns g c =
     let es = (g.R.Register.meaning c.args.register.now).entries in
-    sym (moved_none es c.args.claim c.args.report c.loop-found.after c.in_default.ensures) ∙ c.loop-found.invariant
+    let road = YieldsList-from_first (λ x. x) (claim_entries_left g.R.Register.meaning) _ c.claim_entries.ensures.left in
+    any_from_yields_List (λ x. earlier_movement es c.args.report x.number x.entry) c.any.new.self _ _ c.any.ensures.ran road (λ x b q k. search (rules, tests))
+    ∙ moved_any es c.args.claim c.args.report

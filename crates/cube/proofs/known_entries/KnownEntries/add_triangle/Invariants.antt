@@ -6,5 +6,7 @@ use Rattle.cube.proofs.known_entries.KnownEntries.add_triangle.Given as goal
 abbrev pub invariant-loop-before : goal.invariant-loop-before
 invariant-loop-before g l =
     let es = l.self.entries in
-    let m = g.C.Cohort.meaning l.cohort in
-    added_all l.sheet (triangle_from m l.valued es l.before (drop l.before es)) ≡ added_all l.initial.sheet (triangle m l.valued es)
+    let m = g.C.Cohort.meaning l.initial.cells.cohort.now in
+    (l.cells.cells.ghost_name ≡ l.initial.cells.cells.ghost_name)
+    × (l.cells.cohort.now ≡ l.initial.cells.cohort.now)
+    × (added_all l.cells.cells.now (triangle_from m l.valued es l.before (drop l.before es)) ≡ added_all l.initial.cells.cells.now (triangle m l.valued es))

@@ -1,6 +1,0 @@
-use Rattle.std.proofs.Common.{rules}
-use Rattle.cube.proofs.Claims.{added_append}
-use Rattle.cube.proofs.brings.add_redating.Goals as goal
-
-pub returns : goal.returns
-returns g c = search (rules, added_append)
