@@ -7,7 +7,7 @@ use std::fmt;
 use values::amount::Amount;
 use wording::days::DaysInWords;
 
-// An amount in the currency of the book, its digits in one row: -1200.00.
+// An amount without commas between its digits, unlike wording's: -1200.00.
 #[derive(Clone, Copy)]
 struct Money(Amount);
 
