@@ -4,27 +4,22 @@ ghost use Rattle.full_cube.specs.Figures.{mixed, totalled};
 
 // The sum of the cells modulo 2^64.
 fn total(cells: &[i64]) -> u64
-    ensures { result ≡ totalled 0 cells.now }
+    ensures { result ≡ totalled cells.now }
 {
-    let mut sum = 0u64;
-    for cell in cells {
-        sum = sum.wrapping_add_signed(*cell);
-    }
-    sum
+    cells
+        .iter()
+        .fold(0, |sum: u64, cell| sum.wrapping_add_signed(*cell))
 }
 
 // A number that nearly always differs where two rows of cells do: the value modulo 2^64 of the polynomial whose coefficients
 // they are, at the multiplier that Fowler, Noll and Vo give for their hash.
 fn checksum(cells: &[i64]) -> u64
-    ensures { result ≡ mixed 0 cells.now }
+    ensures { result ≡ mixed cells.now }
 {
-    let mut sum = 0u64;
-    for cell in cells {
-        sum = sum
-            .wrapping_mul(1_099_511_628_211)
-            .wrapping_add_signed(*cell);
-    }
-    sum
+    cells.iter().fold(0, |sum: u64, cell| {
+        sum.wrapping_mul(1_099_511_628_211)
+            .wrapping_add_signed(*cell)
+    })
 }
 
 // Of one measure: the sum of its cells, what of that lies beyond, and the checksum.
@@ -42,19 +37,6 @@ pub struct SheetFigures {
     pub incurred: Figures,
     pub count: Figures,
 }
-
-// The figures of no cells.
-const NOTHING: Figures = Figures {
-    total: 0,
-    beyond: 0,
-    checksum: 0,
-};
-// The figures of an empty sheet.
-pub const NO_FIGURES: SheetFigures = SheetFigures {
-    paid: NOTHING,
-    incurred: NOTHING,
-    count: NOTHING,
-};
 
 // The figures of the cells of one measure.
 fn measure_figures(cells: &[i64]) -> Figures {

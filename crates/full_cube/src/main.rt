@@ -6,95 +6,60 @@ mod booking;
 mod figures;
 mod plan;
 mod questions;
-mod random;
+mod refusal;
 mod report;
 mod request;
 mod session;
 mod tally;
 mod text;
+mod turn;
 
 use anyhow::anyhow;
 use book::large_book;
 use cube::sheet::sheet_length;
+use memory::flat::FlatMemory;
+use memory::paged::PagedMemory;
 use plan::{Plan, Task};
-use register::cards::{ClaimCard, PageCard};
-use register::entry::{Content, Entry, Void};
-use register::flat::FlatLog;
+use register::entry::Entry;
 use register::limits::{MOST_CLAIMS, MOST_ENTRIES};
-use register::numbered::NumberedEntry;
-use register::paged::PagedRegister;
 use report::show_report;
 use request::Request;
+use samples::leftover::leftover;
 use session::{Report, book_and_query, book_only, quarters, write_book};
-use values::day::Day;
+use std::alloc::Global;
 
-// Enough pages for 65,536 entries: a sixteenth of them, and fifteen sixteenths of the 8,192 claims, each of which may leave
-// fifteen slots of its last page unused.
-const PAGES: usize = 11_776;
-
-// The slots of these pages.
-const SLOTS: usize = 16 * PAGES;
-
-// What lies in memory before a register is made over it; nothing may depend on it.
+// What lies in memory before a register is made over it.
 fn old_entry() -> anyhow::Result<Entry> {
-    let Ok(booked) = Day::new(19_991_231) else {
-        return Err(anyhow!("no such day"));
-    };
-    Ok(Entry {
-        booked,
-        claim: 77,
-        content: Content::Void(Void { names: 77 }),
-    })
+    leftover().map_err(|_| anyhow!("no such day"))
 }
 
-// Runs the flat log.
+// Runs the flat log. It and the next stay two functions: a register borrows its memory, and Rattle has no associated type that
+// could say for both kinds of memory what is borrowed.
 fn run_flat(
-    rt: &HostRuntime,
+    heap: Global,
     requests: &[Request],
     sheet: &mut [i64],
     plan: Plan,
 ) -> anyhow::Result<Report> {
-    let mut entries = vec![in rt.alloc(); old_entry()?; MOST_ENTRIES as usize]?;
+    let mut memory = FlatMemory::filled(heap, old_entry()?, MOST_ENTRIES, MOST_CLAIMS)?;
     for _ in 1..plan.bookings {
-        let log = FlatLog::new(entries.as_mut_slice(), MOST_CLAIMS);
-        let _ = book_only(log, sheet, requests)?;
+        book_only(memory.register(), sheet, requests)?;
     }
-    let log = FlatLog::new(entries.as_mut_slice(), MOST_CLAIMS);
-    book_and_query(rt.alloc(), log, sheet, requests, plan.queries)
+    book_and_query(heap, memory.register(), sheet, requests, plan.queries)
 }
 
 // Runs the paged register.
 fn run_paged(
-    rt: &HostRuntime,
+    heap: Global,
     requests: &[Request],
     sheet: &mut [i64],
     plan: Plan,
 ) -> anyhow::Result<Report> {
-    let entry = old_entry()?;
-    let mut page_cards = vec![in rt.alloc(); PageCard { next: 77 }; PAGES]?;
-    let mut slots = vec![in rt.alloc(); NumberedEntry { number: 77, entry }; SLOTS]?;
-    let mut claim_cards = vec![in rt.alloc(); ClaimCard {
-        first: 77,
-        last: 77,
-        spare: 77
-    }; MOST_CLAIMS as usize]?;
-    let mut places = vec![in rt.alloc(); 77u32; MOST_ENTRIES as usize]?;
+    let mut memory = PagedMemory::filled(heap, old_entry()?, MOST_ENTRIES, MOST_CLAIMS)?;
     for _ in 1..plan.bookings {
-        let register = PagedRegister::new(
-            page_cards.as_mut_slice(),
-            slots.as_mut_slice(),
-            claim_cards.as_mut_slice(),
-            places.as_mut_slice(),
-        );
-        let _ = book_only(register, sheet, requests)?;
+        book_only(memory.register(), sheet, requests)?;
     }
-    let register = PagedRegister::new(
-        page_cards.as_mut_slice(),
-        slots.as_mut_slice(),
-        claim_cards.as_mut_slice(),
-        places.as_mut_slice(),
-    );
-    book_and_query(rt.alloc(), register, sheet, requests, plan.queries)
+    book_and_query(heap, memory.register(), sheet, requests, plan.queries)
 }
 
 // Runs both registers, and tells whether every figure and every cell of the live sheets are the same.
@@ -102,35 +67,39 @@ fn run_both(rt: &HostRuntime, requests: &[Request], plan: Plan) -> anyhow::Resul
     let cells = sheet_length(&quarters()?);
     let mut flat_sheet = vec![in rt.alloc(); 0i64; cells]?;
     let mut paged_sheet = vec![in rt.alloc(); 0i64; cells]?;
-    let flat = run_flat(rt, requests, flat_sheet.as_mut_slice(), plan)?;
-    let paged = run_paged(rt, requests, paged_sheet.as_mut_slice(), plan)?;
-    show_report(rt, "flat log", flat)?;
+    let flat = run_flat(rt.alloc(), requests, flat_sheet.as_mut_slice(), plan)?;
+    let paged = run_paged(rt.alloc(), requests, paged_sheet.as_mut_slice(), plan)?;
+    show_report(rt, "flat log", &flat)?;
     if flat == paged && flat_sheet.as_slice() == paged_sheet.as_slice() {
         println!(rt; "paged register")?;
         println!(rt; "  the same in every figure, and in every cell of the live sheet")?;
         return Ok(());
     }
-    show_report(rt, "paged register", paged)?;
+    show_report(rt, "paged register", &paged)?;
     println!(rt; "The registers do not agree.")?;
     Ok(())
 }
 
 // Writes the book out, with the answers of a cube over a flat log.
 fn write_out(rt: &HostRuntime, requests: &[Request], sheet: &mut [i64]) -> anyhow::Result<()> {
-    let mut entries = vec![in rt.alloc(); old_entry()?; MOST_ENTRIES as usize]?;
-    let log = FlatLog::new(entries.as_mut_slice(), MOST_CLAIMS);
-    write_book(rt, log, sheet, requests)
+    let mut memory = FlatMemory::filled(rt.alloc(), old_entry()?, MOST_ENTRIES, MOST_CLAIMS)?;
+    write_book(rt, memory.register(), sheet, requests)
 }
 
 fn run(rt: &HostRuntime) -> anyhow::Result<()> {
+    let heap = rt.alloc();
     let plan = Plan::from_arguments(rt)?;
-    let book = large_book(rt, plan.entries, plan.claims)?;
+    let book = large_book(heap, plan.entries, plan.claims)?;
     let requests = book.as_slice();
-    let mut cells = vec![in rt.alloc(); 0i64; sheet_length(&quarters()?)]?;
+    let mut cells = vec![in heap; 0i64; sheet_length(&quarters()?)]?;
     let sheet = cells.as_mut_slice();
     match plan.task {
-        Task::Flat => show_report(rt, "flat log", run_flat(rt, requests, sheet, plan)?),
-        Task::Paged => show_report(rt, "paged register", run_paged(rt, requests, sheet, plan)?),
+        Task::Flat => show_report(rt, "flat log", &run_flat(heap, requests, sheet, plan)?),
+        Task::Paged => show_report(
+            rt,
+            "paged register",
+            &run_paged(heap, requests, sheet, plan)?,
+        ),
         Task::Both => run_both(rt, requests, plan),
         Task::Book => write_out(rt, requests, sheet),
     }

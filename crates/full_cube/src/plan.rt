@@ -1,7 +1,10 @@
 // What a run is to do.
-use anyhow::anyhow;
+use anyhow::Context;
 use register::limits::{MOST_CLAIMS, MOST_ENTRIES};
-use std::env;
+use samples::arguments::{number_up_to, setting};
+use std::env::{self, Args};
+use std::iter::Skip;
+use std::str::FromStr;
 
 // The registers that are run, or that the book is written out.
 #[derive(Clone, Copy, PartialEq)]
@@ -10,6 +13,24 @@ pub enum Task {
     Paged,
     Both,
     Book,
+}
+
+// The word names no task.
+#[derive(Clone, Copy, Debug)]
+pub struct NoTask;
+
+impl FromStr for Task {
+    type Err = NoTask;
+
+    fn from_str(word: &str) -> Result<Task, NoTask> {
+        match word {
+            "flat" => Ok(Task::Flat),
+            "paged" => Ok(Task::Paged),
+            "both" => Ok(Task::Both),
+            "book" => Ok(Task::Book),
+            _ => Err(NoTask),
+        }
+    }
 }
 
 // The task, the size of the book, and how often it is booked and how often queried as it is known at its end.
@@ -22,55 +43,23 @@ pub struct Plan {
     pub queries: u32,
 }
 
-// The task that a word names.
-fn task_named(word: &str) -> Option<Task> {
-    match word {
-        "flat" => Some(Task::Flat),
-        "paged" => Some(Task::Paged),
-        "both" => Some(Task::Both),
-        "book" => Some(Task::Book),
-        _ => None,
-    }
-}
-
-// A number up to a bound.
-fn number(word: &str, most: u32) -> Option<u32> {
-    let number = word.parse::<u32>().ok()?;
-    if number <= most { Some(number) } else { None }
-}
-
 impl Plan {
-    // The plan with one setting changed, none where the word does not fit it.
-    fn with(self, place: usize, word: &str) -> Option<Plan> {
-        let mut plan = self;
-        match place {
-            0 => plan.task = task_named(word)?,
-            1 => plan.entries = number(word, MOST_ENTRIES)?,
-            2 => plan.claims = number(word, MOST_CLAIMS)?,
-            3 => plan.bookings = number(word, u32::MAX)?,
-            4 => plan.queries = number(word, u32::MAX)?,
-            _ => return None,
-        }
-        Some(plan)
+    // The plan by words in the order of its settings, of which the last may be left out; none where a word does not fit.
+    fn read(mut words: Skip<Args>) -> Option<Plan> {
+        let plan = Plan {
+            task: setting(words.next(), Task::Both)?,
+            entries: number_up_to(MOST_ENTRIES, words.next(), 30_000)?,
+            claims: number_up_to(MOST_CLAIMS, words.next(), 4_000)?,
+            bookings: setting(words.next(), 1)?,
+            queries: setting(words.next(), 1)?,
+        };
+        words.next().is_none().then_some(plan)
     }
 
-    // The plan by the program's arguments: task, entries, claims, bookings, queries, of which the last may be left out.
+    // The plan by the program's arguments.
     pub fn from_arguments(rt: &HostRuntime) -> anyhow::Result<Plan> {
-        let mut plan = Plan {
-            task: Task::Both,
-            entries: 30_000,
-            claims: 4_000,
-            bookings: 1,
-            queries: 1,
-        };
-        for (place, word) in env::args(rt)?.skip(1).enumerate() {
-            let Some(changed) = plan.with(place, word.as_str()) else {
-                return Err(anyhow!(
-                    "usage: full_cube [flat|paged|both|book [ENTRIES [CLAIMS [BOOKINGS [QUERIES]]]]]"
-                ));
-            };
-            plan = changed;
-        }
-        Ok(plan)
+        Plan::read(env::args(rt)?.skip(1)).context(
+            "usage: full_cube [flat|paged|both|book [ENTRIES [CLAIMS [BOOKINGS [QUERIES]]]]]",
+        )
     }
 }

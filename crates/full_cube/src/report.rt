@@ -1,9 +1,8 @@
 // Telling what a run found.
 use crate::figures::{Figures, SheetFigures};
-use crate::questions::{ASKED, KEPT_DAY, LAST_DAY, QUESTIONS};
+use crate::questions::{Answered, ComparedDays};
 use crate::session::Report;
 use crate::tally::Tally;
-use std::fmt;
 
 // Prints the counts.
 fn show_tally(rt: &HostRuntime, tally: Tally) -> anyhow::Result<()> {
@@ -53,51 +52,43 @@ fn show_sheet(rt: &HostRuntime, sheet: SheetFigures) -> anyhow::Result<()> {
     show_measure(rt, "count", sheet.count)
 }
 
-// A day number as year, month and day of the month: 2021-04-15.
-#[derive(Clone, Copy)]
-struct Dated(u64);
-
-impl fmt::Display for Dated {
-    fn fmt<W: fmt::Write>(&self, f: &mut fmt::Formatter<W>) -> fmt::Result {
-        let year = self.0 / 10_000;
-        let month = self.0 / 100 % 100;
-        let day = self.0 % 100;
-        write!(f, "{year}-{month:02}-{day:02}")
-    }
-}
-
 // Prints the questions with the figures of their answers.
-fn show_answers(rt: &HostRuntime, answers: [SheetFigures; QUESTIONS]) -> anyhow::Result<()> {
-    for (question, answer) in ASKED.iter().zip(answers.iter()) {
-        let known = Dated(question.known);
-        let valued = Dated(question.valued);
-        println!(rt; "  known on {known}, valued at {valued}")?;
-        show_sheet(rt, *answer)?;
+fn show_answers(rt: &HostRuntime, answers: &[Answered]) -> anyhow::Result<()> {
+    for Answered { question, figures } in answers {
+        println!(rt;
+            "  known on {}, valued at {}",
+            question.known, question.valued
+        )?;
+        show_sheet(rt, *figures)?;
     }
     Ok(())
 }
 
+// Whether an answer was a sheet, in words.
+fn is_or_not(same: bool) -> &'static str {
+    if same { "is" } else { "IS NOT" }
+}
+
 // Prints whether two answers were the live sheet.
-fn show_comparison(rt: &HostRuntime, report: Report) -> anyhow::Result<()> {
-    let kept_day = Dated(KEPT_DAY);
-    let last_day = Dated(LAST_DAY);
-    let stood = if report.stood { "is" } else { "IS NOT" };
-    let current = if report.current { "is" } else { "IS NOT" };
+fn show_comparison(rt: &HostRuntime, report: &Report) -> anyhow::Result<()> {
+    let ComparedDays { kept, last } = report.days;
+    let stood = is_or_not(report.stood);
+    let current = is_or_not(report.current);
     println!(rt;
-        "  known on and valued at {kept_day}: {stood} the live sheet as it stood when that day ended, cell by cell"
+        "  known on and valued at {kept}: {stood} the live sheet as it stood when that day ended, cell by cell"
     )?;
     println!(rt;
-        "  known on and valued at {last_day}: {current} the live sheet at the end, cell by cell"
+        "  known on and valued at {last}: {current} the live sheet at the end, cell by cell"
     )?;
     Ok(())
 }
 
 // Prints what came of a book on one register.
-pub fn show_report(rt: &HostRuntime, name: &str, report: Report) -> anyhow::Result<()> {
+pub fn show_report(rt: &HostRuntime, name: &str, report: &Report) -> anyhow::Result<()> {
     println!(rt; "{name}")?;
     show_tally(rt, report.tally)?;
     println!(rt; "  the live sheet at the end")?;
     show_sheet(rt, report.live)?;
-    show_answers(rt, report.answers)?;
+    show_answers(rt, report.answers.as_slice())?;
     show_comparison(rt, report)
 }

@@ -1,6 +1,6 @@
 // What is asked of a cube.
+use register::entry::{Correction, Terms};
 use register::kind::MovementKind;
-use values::amount::Amount;
 use values::claim_days::ClaimDays;
 use values::day::Day;
 
@@ -9,16 +9,7 @@ use values::day::Day;
 pub struct Movement {
     pub kind: MovementKind,
     pub claim: u32,
-    pub effective: Day,
-    pub amount: Amount,
-}
-
-// New terms for the movement with a number.
-#[derive(Clone, Copy)]
-pub struct NewTerms {
-    pub number: u32,
-    pub effective: Day,
-    pub amount: Amount,
+    pub terms: Terms,
 }
 
 // New claim days for a claim.
@@ -34,7 +25,7 @@ pub enum Action {
     Open(ClaimDays),
     Move(Movement),
     // draft and post
-    Correct(NewTerms),
+    Correct(Correction),
     // draft and drop
     Abandon(u32),
     Void(u32),

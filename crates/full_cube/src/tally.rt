@@ -6,8 +6,9 @@ use register::kind::MovementKind;
 // The refusal numbers of calls end before this.
 pub const FAULT_NUMBERS: usize = 20;
 
-// The entries that were booked, by kind, the drafts that were dropped, and the refusals, by number.
-#[derive(Clone, Copy, PartialEq)]
+// The entries that were booked, by kind, the drafts that were dropped, and the refusals, by number: an array and no map, since
+// counting must not allocate.
+#[derive(Clone, Copy, PartialEq, Default)]
 pub struct Tally {
     pub openings: u32,
     pub payments: u32,
@@ -18,18 +19,6 @@ pub struct Tally {
     pub dropped: u32,
     pub refused: [u32; FAULT_NUMBERS],
 }
-
-// Nothing was asked yet.
-pub const NO_TALLY: Tally = Tally {
-    openings: 0,
-    payments: 0,
-    reserve_changes: 0,
-    corrections: 0,
-    voids: 0,
-    redatings: 0,
-    dropped: 0,
-    refused: [0; FAULT_NUMBERS],
-};
 
 // One more.
 fn count(counter: &mut u32) {

@@ -7,7 +7,7 @@ use values::claim_days::ClaimDays;
 
 // The fields of a line, each 0 where the request has none: a letter, the claim, the number of a movement, the effective day,
 // the amount and the three claim days.
-#[derive(Clone, Copy)]
+#[derive(Clone, Copy, Default)]
 struct Fields {
     letter: char,
     claim: u32,
@@ -24,13 +24,7 @@ impl Fields {
     fn new(letter: char) -> Fields {
         Fields {
             letter,
-            claim: 0,
-            number: 0,
-            effective: 0,
-            cents: 0,
-            inception: 0,
-            occurrence: 0,
-            report: 0,
+            ..Fields::default()
         }
     }
 
@@ -59,17 +53,17 @@ impl Fields {
             Action::Open(claim_days) => Fields::dating('O', 0, claim_days),
             Action::Move(movement) => Fields {
                 claim: movement.claim,
-                effective: movement.effective.number(),
-                cents: movement.amount.cents(),
+                effective: movement.terms.effective.number(),
+                cents: movement.terms.amount.cents(),
                 ..Fields::new(match movement.kind {
                     MovementKind::Paid => 'P',
                     MovementKind::Reserved => 'R',
                 })
             },
-            Action::Correct(terms) => Fields {
-                effective: terms.effective.number(),
-                cents: terms.amount.cents(),
-                ..Fields::naming('K', terms.number)
+            Action::Correct(correction) => Fields {
+                effective: correction.terms.effective.number(),
+                cents: correction.terms.amount.cents(),
+                ..Fields::naming('K', correction.names)
             },
             Action::Abandon(number) => Fields::naming('X', number),
             Action::Void(number) => Fields::naming('V', number),

@@ -1,138 +1,125 @@
 // A large book of claims, the same in every run.
-use crate::random::Random;
-use anyhow::anyhow;
-use register::entry::{
-    Content, Correction, Entry, Opening, Payment, Redating, ReserveChange, Void,
-};
-use values::amount::Amount;
-use values::claim_days::ClaimDays;
+ghost use Rattle.std.specs.Prelude.{◌<◌, ◌^◌};
+
+use anyhow::{Context, anyhow};
+use register::entry::{Content, Correction, Entry, Terms, Void};
+use samples::happening::Happening;
+use samples::random::Random;
+use samples::samples::Samples;
+use samples::spread::come_by;
+use std::alloc::Global;
 use values::day::Day;
 use values::fault::ValueFault;
 
 // The book covers ten years of 12 months, of which the first 28 days each are used.
-const DAYS: u64 = 3360;
+const DAYS: u32 = 3360;
 
-// What the book knows of a claim: whether it was opened, and the number of its last movement that stands, 0 for none.
+// Where all books begin: ten years from January 2015.
+const START: Samples = Samples {
+    random: Random { state: 20_150_101 },
+    first_year: 2015,
+    report_delay: 100,
+};
+
+// An entry that is to be made: its number and the day on which it is booked, which is also the count of a day.
 #[derive(Clone, Copy)]
-struct ClaimState {
-    opened: bool,
-    movement: u32,
-}
-
-// A day of the book, counted from the first of January 2015.
-fn day_at(count: u64) -> Result<Day, ValueFault> {
-    let day = count % DAYS;
-    Day::new((2015 + day / 336) * 10_000 + (1 + day / 28 % 12) * 100 + 1 + day % 28)
-}
-
-// Three claim days in order, the last of them a given day of the book.
-fn claim_days(random: &mut Random, report: u64) -> Result<ClaimDays, ValueFault> {
-    let occurrence = report.saturating_sub(random.below(100));
-    let inception = occurrence.saturating_sub(random.below(336));
-    Ok(ClaimDays {
-        inception: day_at(inception)?,
-        occurrence: day_at(occurrence)?,
-        report: day_at(report)?,
-    })
-}
-
-// An amount of up to 10,000.00, paid or taken back.
-fn amount(random: &mut Random) -> Result<Amount, ValueFault> {
-    let cents = 1 + random.below(1_000_000) as i64;
-    Amount::new(if random.below(4) == 0 { -cents } else { cents })
-}
-
-// The content of an entry with a number, booked on a day, for a claim of which the book knows this much.
-fn content(
-    random: &mut Random,
-    claim: &mut ClaimState,
+struct Booking {
     number: u32,
-    day: u64,
+    count: u64,
+    booked: Day,
+}
+
+// Of ten happenings four are payments, three reserve changes, and one each a correction, a void and a redating.
+fn next_happening(random: &mut Random) -> Happening {
+    match random.below(10) {
+        0..=3 => Happening::Payment,
+        4..=6 => Happening::ReserveChange,
+        7 => Happening::Correction,
+        8 => Happening::Void,
+        _ => Happening::Redating,
+    }
+}
+
+// What happens to an open claim, of which the movement with a number may stand. Where none stands, there is a reserve change
+// in place of a correction or a void.
+fn change(
+    samples: &mut Samples,
+    standing: &mut Option<u32>,
+    booking: Booking,
 ) -> Result<Content, ValueFault> {
-    if !claim.opened {
-        claim.opened = true;
-        let claim_days = claim_days(random, day)?;
-        return Ok(Content::Opening(Opening { claim_days }));
-    }
-    let effective = day_at(day)?;
-    let amount = amount(random)?;
-    let names = claim.movement;
-    let choice = random.below(10);
-    if choice == 9 {
-        let claim_days = claim_days(random, day)?;
-        return Ok(Content::Redating(Redating { claim_days }));
-    }
-    if choice == 8 && names > 0 {
-        claim.movement = 0;
-        return Ok(Content::Void(Void { names }));
-    }
-    claim.movement = number;
-    if choice == 7 && names > 0 {
-        return Ok(Content::Correction(Correction {
-            names,
-            effective,
-            amount,
-        }));
-    }
-    if choice < 4 {
-        Ok(Content::Payment(Payment { effective, amount }))
-    } else {
-        Ok(Content::ReserveChange(ReserveChange { effective, amount }))
-    }
-}
-
-// The entry with a number, booked on a day.
-fn entry(
-    random: &mut Random,
-    state: &mut ClaimState,
-    claim: u32,
-    number: u32,
-    day: u64,
-) -> Result<Entry, ValueFault> {
-    let booked = day_at(day)?;
-    let content = content(random, state, number, day)?;
-    Ok(Entry {
-        booked,
-        claim,
-        content,
-    })
+    let terms = Terms {
+        effective: booking.booked,
+        amount: samples.amount()?,
+    };
+    let here = Some(booking.number);
+    let (content, stands) = match (next_happening(&mut samples.random), *standing) {
+        (Happening::Redating, before) => {
+            let claim_days = samples.claim_days(booking.count)?;
+            (Content::Redating(claim_days), before)
+        }
+        (Happening::Void, Some(names)) => (Content::Void(Void { names }), None),
+        (Happening::Correction, Some(names)) => {
+            (Content::Correction(Correction { names, terms }), here)
+        }
+        (Happening::Payment, _) => (Content::Payment(terms), here),
+        _ => (Content::ReserveChange(terms), here),
+    };
+    *standing = stands;
+    Ok(content)
 }
 
 // One of the claims that were opened, as an index: every second time one of the first tenth, so that some claims have
 // many entries.
-fn claim_index(random: &mut Random, opened: u32) -> u32 {
-    if random.below(2) == 0 {
-        random.below(opened as u64) as u32
+fn claim_index(random: &mut Random, opened: usize) -> u32
+    ensures { result < 2 ^ 31 }
+{
+    let among = if random.below(2) == 0 {
+        opened
     } else {
-        random.below(opened as u64 / 10) as u32
-    }
+        opened / 10
+    };
+    random.below(among as u64) as u32
+}
+
+// What becomes of a number that is no value.
+fn no_value(_: ValueFault) -> anyhow::Error {
+    anyhow!("the book has a number that is no day or no amount")
 }
 
 // So many entries over so many claims, in the order of booking. The claims are opened one by one, evenly over the book.
-pub fn large_book(rt: &HostRuntime, entries: u32, claims: u32) -> anyhow::Result<Vec<Entry>> {
-    let mut random = Random { state: 20_150_101 };
-    let fresh = ClaimState {
-        opened: false,
-        movement: 0,
-    };
-    let mut states = vec![in rt.alloc(); fresh; claims as usize]?;
-    let mut book = Vec::new(rt.alloc());
-    let mut opened = 0u32;
+pub fn large_book(heap: Global, entries: u32, claims: u32) -> anyhow::Result<Vec<Entry>> {
+    let mut samples = START;
+    // the number of the last movement that stands, of each claim that was opened
+    let mut standing: Vec<Option<u32>> = Vec::new(heap);
+    let mut book = Vec::new(heap);
     for index in 0..entries {
-        let claim = if opened as u64 <= index as u64 * claims as u64 / entries as u64 {
-            opened = opened.saturating_add(1);
-            opened - 1
+        let count = come_by(index, entries, DAYS);
+        let booked = samples.day(count).map_err(no_value)?;
+        let opened = standing.len();
+        let (claim, content) = if opened < claims as usize
+            && opened as u64 <= come_by(index, entries, claims)
+        {
+            standing.push(None)?;
+            let claim_days = samples.claim_days(count).map_err(no_value)?;
+            (opened as u32, Content::Opening(claim_days))
         } else {
-            claim_index(&mut random, opened)
+            let claim = claim_index(&mut samples.random, opened);
+            let standing = standing
+                .get_mut(claim as usize)
+                .context("a book has claims")?;
+            let booking = Booking {
+                number: index + 1,
+                count,
+                booked,
+            };
+            let content = change(&mut samples, standing, booking).map_err(no_value)?;
+            (claim, content)
         };
-        let day = index as u64 * DAYS / entries as u64;
-        let Some(state) = states.get_mut(claim as usize) else {
-            return Err(anyhow!("a book has claims"));
-        };
-        match entry(&mut random, state, claim.saturating_add(1), index + 1, day) {
-            Ok(entry) => book.push(entry)?,
-            Err(_) => return Err(anyhow!("the book has a number that is no day or no amount")),
-        }
+        book.push(Entry {
+            booked,
+            claim: claim + 1,
+            content,
+        })?;
     }
     Ok(book)
 }

@@ -3,98 +3,50 @@
 
 mod book;
 mod plan;
-mod random;
 mod reading;
 mod report;
 mod sums;
 
 use anyhow::anyhow;
 use book::large_book;
+use memory::flat::FlatMemory;
+use memory::paged::PagedMemory;
 use plan::{Kind, Plan};
 use reading::book_all;
-use register::cards::{ClaimCard, PageCard};
-use register::entry::{Content, Entry, Void};
-use register::flat::FlatLog;
+use register::entry::Entry;
 use register::limits::{MOST_CLAIMS, MOST_ENTRIES};
-use register::numbered::NumberedEntry;
-use register::paged::PagedRegister;
-use register::register::Register;
 use report::{Report, run_on, show_report};
-use values::day::Day;
+use samples::leftover::leftover;
+use std::alloc::Global;
 
-// Enough pages for 65,536 entries: a sixteenth of them, and fifteen sixteenths of the 8,192 claims, each of which may leave
-// fifteen slots of its last page unused.
-const PAGES: usize = 11_776;
-
-// The slots of these pages.
-const SLOTS: usize = 16 * PAGES;
-
-// What lies in memory before a register is made over it; nothing may depend on it.
+// What lies in memory before a register is made over it.
 fn old_entry() -> anyhow::Result<Entry> {
-    let Ok(booked) = Day::new(19_991_231) else {
-        return Err(anyhow!("no such day"));
-    };
-    Ok(Entry {
-        booked,
-        claim: 77,
-        content: Content::Void(Void { names: 77 }),
-    })
+    leftover().map_err(|_| anyhow!("no such day"))
 }
 
-// Runs the flat log.
-fn run_flat(rt: &HostRuntime, book: &[Entry], plan: Plan) -> anyhow::Result<Report> {
-    let mut entries = vec![in rt.alloc(); old_entry()?; MOST_ENTRIES as usize]?;
+// Runs the flat log. It and the next stay two functions: a register borrows its memory, and Rattle has no associated type that
+// could say for both kinds of memory what is borrowed.
+fn run_flat(heap: Global, book: &[Entry], plan: Plan) -> anyhow::Result<Report> {
+    let mut memory = FlatMemory::filled(heap, old_entry()?, MOST_ENTRIES, MOST_CLAIMS)?;
     for _ in 1..plan.bookings {
-        let mut log = FlatLog::new(entries.as_mut_slice(), MOST_CLAIMS);
-        let _ = book_all(&mut log, book);
+        let _ = book_all(&mut memory.register(), book);
     }
-    let mut log = FlatLog::new(entries.as_mut_slice(), MOST_CLAIMS);
-    Ok(run_on(&mut log, book, plan))
+    Ok(run_on(&mut memory.register(), book, plan))
 }
 
 // Runs the paged register.
-fn run_paged(rt: &HostRuntime, book: &[Entry], plan: Plan) -> anyhow::Result<Report> {
-    let entry = old_entry()?;
-    let mut page_cards = vec![in rt.alloc(); PageCard { next: 77 }; PAGES]?;
-    let mut slots = vec![in rt.alloc(); NumberedEntry { number: 77, entry }; SLOTS]?;
-    let mut claim_cards = vec![in rt.alloc(); ClaimCard {
-        first: 77,
-        last: 77,
-        spare: 77
-    }; MOST_CLAIMS as usize]?;
-    let mut places = vec![in rt.alloc(); 77u32; MOST_ENTRIES as usize]?;
+fn run_paged(heap: Global, book: &[Entry], plan: Plan) -> anyhow::Result<Report> {
+    let mut memory = PagedMemory::filled(heap, old_entry()?, MOST_ENTRIES, MOST_CLAIMS)?;
     for _ in 1..plan.bookings {
-        let mut register = PagedRegister::new(
-            page_cards.as_mut_slice(),
-            slots.as_mut_slice(),
-            claim_cards.as_mut_slice(),
-            places.as_mut_slice(),
-        );
-        let _ = book_all(&mut register, book);
+        let _ = book_all(&mut memory.register(), book);
     }
-    let mut register = PagedRegister::new(
-        page_cards.as_mut_slice(),
-        slots.as_mut_slice(),
-        claim_cards.as_mut_slice(),
-        places.as_mut_slice(),
-    );
-    Ok(run_on(&mut register, book, plan))
+    Ok(run_on(&mut memory.register(), book, plan))
 }
 
-fn run(rt: &HostRuntime) -> anyhow::Result<()> {
-    let plan = Plan::from_arguments(rt)?;
-    let book = large_book(rt, plan.entries, plan.claims)?;
-    let entries = book.len();
-    let claims = plan.claims;
-    println!(rt; "A book of {entries} entries over {claims} claims.")?;
-    if plan.kind == Kind::Flat {
-        return show_report(rt, "flat log", run_flat(rt, book.as_slice(), plan)?);
-    }
-    if plan.kind == Kind::Paged {
-        return show_report(rt, "paged register", run_paged(rt, book.as_slice(), plan)?);
-    }
-    let flat = run_flat(rt, book.as_slice(), plan)?;
-    let paged = run_paged(rt, book.as_slice(), plan)?;
+// Runs both registers, and tells whether they answer the same.
+fn run_both(rt: &HostRuntime, book: &[Entry], plan: Plan) -> anyhow::Result<()> {
+    let flat = run_flat(rt.alloc(), book, plan)?;
+    let paged = run_paged(rt.alloc(), book, plan)?;
     show_report(rt, "flat log", flat)?;
     show_report(rt, "paged register", paged)?;
     if flat == paged {
@@ -103,6 +55,22 @@ fn run(rt: &HostRuntime) -> anyhow::Result<()> {
         println!(rt; "The registers do not agree.")?;
     }
     Ok(())
+}
+
+fn run(rt: &HostRuntime) -> anyhow::Result<()> {
+    let plan = Plan::from_arguments(rt)?;
+    let entries = large_book(rt.alloc(), plan.entries, plan.claims)?;
+    let book = entries.as_slice();
+    println!(rt;
+        "A book of {} entries over {} claims.",
+        book.len(),
+        plan.claims
+    )?;
+    match plan.kind {
+        Kind::Flat => show_report(rt, "flat log", run_flat(rt.alloc(), book, plan)?),
+        Kind::Paged => show_report(rt, "paged register", run_paged(rt.alloc(), book, plan)?),
+        Kind::Both => run_both(rt, book, plan),
+    }
 }
 
 fn main(rt: HostRuntime) -> anyhow::Result<()> {

@@ -1,7 +1,10 @@
 // What a run is to do.
-use anyhow::anyhow;
+use anyhow::Context;
 use register::limits::{MOST_CLAIMS, MOST_ENTRIES};
-use std::env;
+use samples::arguments::{number_up_to, setting};
+use std::env::{self, Args};
+use std::iter::Skip;
+use std::str::FromStr;
 
 // Which registers are run.
 #[derive(Clone, Copy, PartialEq)]
@@ -9,6 +12,23 @@ pub enum Kind {
     Flat,
     Paged,
     Both,
+}
+
+// The word names no kind.
+#[derive(Clone, Copy, Debug)]
+pub struct NoKind;
+
+impl FromStr for Kind {
+    type Err = NoKind;
+
+    fn from_str(word: &str) -> Result<Kind, NoKind> {
+        match word {
+            "flat" => Ok(Kind::Flat),
+            "paged" => Ok(Kind::Paged),
+            "both" => Ok(Kind::Both),
+            _ => Err(NoKind),
+        }
+    }
 }
 
 // The registers, the size of the book, and how often it is walked through by claim, read by number and booked.
@@ -22,56 +42,24 @@ pub struct Plan {
     pub bookings: u32,
 }
 
-// The kind that a word names.
-fn kind_named(word: &str) -> Option<Kind> {
-    match word {
-        "flat" => Some(Kind::Flat),
-        "paged" => Some(Kind::Paged),
-        "both" => Some(Kind::Both),
-        _ => None,
-    }
-}
-
-// A number up to a bound.
-fn number(word: &str, most: u32) -> Option<u32> {
-    let number = word.parse::<u32>().ok()?;
-    if number <= most { Some(number) } else { None }
-}
-
 impl Plan {
-    // The plan with one setting changed, none where the word does not fit it.
-    fn with(self, place: usize, word: &str) -> Option<Plan> {
-        let mut plan = self;
-        match place {
-            0 => plan.kind = kind_named(word)?,
-            1 => plan.entries = number(word, MOST_ENTRIES)?,
-            2 => plan.claims = number(word, MOST_CLAIMS)?,
-            3 => plan.walks = number(word, u32::MAX)?,
-            4 => plan.reads = number(word, u32::MAX)?,
-            5 => plan.bookings = number(word, u32::MAX)?,
-            _ => return None,
-        }
-        Some(plan)
+    // The plan by words in the order of its settings, of which the last may be left out; none where a word does not fit.
+    fn read(mut words: Skip<Args>) -> Option<Plan> {
+        let plan = Plan {
+            kind: setting(words.next(), Kind::Both)?,
+            entries: number_up_to(MOST_ENTRIES, words.next(), 30_000)?,
+            claims: number_up_to(MOST_CLAIMS, words.next(), 4_000)?,
+            walks: setting(words.next(), 1)?,
+            reads: setting(words.next(), 1)?,
+            bookings: setting(words.next(), 1)?,
+        };
+        words.next().is_none().then_some(plan)
     }
 
-    // The plan by the program's arguments: kind, entries, claims, walks, reads, bookings, of which the last may be left out.
+    // The plan by the program's arguments.
     pub fn from_arguments(rt: &HostRuntime) -> anyhow::Result<Plan> {
-        let mut plan = Plan {
-            kind: Kind::Both,
-            entries: 30_000,
-            claims: 4_000,
-            walks: 1,
-            reads: 1,
-            bookings: 1,
-        };
-        for (place, word) in env::args(rt)?.skip(1).enumerate() {
-            let Some(changed) = plan.with(place, word.as_str()) else {
-                return Err(anyhow!(
-                    "usage: full_size [flat|paged|both [ENTRIES [CLAIMS [WALKS [READS [BOOKINGS]]]]]]"
-                ));
-            };
-            plan = changed;
-        }
-        Ok(plan)
+        Plan::read(env::args(rt)?.skip(1)).context(
+            "usage: full_size [flat|paged|both [ENTRIES [CLAIMS [WALKS [READS [BOOKINGS]]]]]]",
+        )
     }
 }

@@ -3,6 +3,7 @@ ghost use Rattle.std.specs.Prelude.{◌≡◌};
 ghost use Rattle.full_size.specs.Readings.{all_walked, booked, read, walked};
 
 use crate::sums::Sums;
+use register::entries::{all_entries, claim_entries};
 use register::entry::Entry;
 use register::register::Register;
 
@@ -19,17 +20,11 @@ pub fn book_all<R: Register>(register: &mut R, book: &[Entry]) -> u64
     accepted
 }
 
-// Adds up the entries of a claim, going from each to the next.
+// Adds up the entries of a claim.
 fn walk_claim<R: Register>(register: &R, claim: u32, start: Sums) -> Sums
-    ensures { result ≡ walked (R.Register.meaning register.now).entries claim 0 start }
+    ensures { result ≡ walked (R.Register.meaning register.now).entries claim start }
 {
-    let mut sums = start;
-    let mut after = 0;
-    while let Some(found) = register.next_of_claim(claim, after) {
-        sums = sums.after(found.number, found.entry);
-        after = found.number;
-    }
-    sums
+    claim_entries(register, claim, 0).fold(start, Sums::after)
 }
 
 // Adds up the entries of the claims from 1 to the last, claim by claim.
@@ -45,13 +40,7 @@ pub fn walk_claims<R: Register>(register: &R, last: u32, start: Sums) -> Sums
 
 // Adds up all entries, number by number.
 pub fn read_all<R: Register>(register: &R, start: Sums) -> Sums
-    ensures { result ≡ read (R.Register.meaning register.now).entries 0 start }
+    ensures { result ≡ read (R.Register.meaning register.now).entries start }
 {
-    let mut sums = start;
-    let mut last = 0;
-    while let Some(entry) = register.entry(last + 1) {
-        last += 1;
-        sums = sums.after(last, entry);
-    }
-    sums
+    all_entries(register).fold(start, Sums::after)
 }

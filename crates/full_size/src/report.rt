@@ -1,7 +1,7 @@
 // What a run found, and how it is told.
 use crate::plan::Plan;
 use crate::reading::{book_all, read_all, walk_claims};
-use crate::sums::{NO_SUMS, Sums};
+use crate::sums::Sums;
 use register::entry::Entry;
 use register::register::Register;
 use std::fmt;
@@ -21,11 +21,11 @@ pub struct Report {
 // Books the book on a register and reads it back as often as planned.
 pub fn run_on<R: Register>(register: &mut R, book: &[Entry], plan: Plan) -> Report {
     let accepted = book_all(register, book);
-    let mut walked = NO_SUMS;
+    let mut walked = Sums::default();
     for _ in 0..plan.walks {
         walked = walk_claims(register, plan.claims, walked);
     }
-    let mut read = NO_SUMS;
+    let mut read = Sums::default();
     for _ in 0..plan.reads {
         read = read_all(register, read);
     }
@@ -42,11 +42,14 @@ pub fn run_on<R: Register>(register: &mut R, book: &[Entry], plan: Plan) -> Repo
 
 impl fmt::Display for Sums {
     fn fmt<W: fmt::Write>(&self, f: &mut fmt::Formatter<W>) -> fmt::Result {
-        let entries = self.entries;
-        let numbers = self.numbers;
-        let claims = self.claims;
-        let booked = self.booked;
-        let cents = self.cents.cast_signed();
+        let Sums {
+            entries,
+            numbers,
+            claims,
+            booked,
+            cents,
+        } = *self;
+        let cents = cents.cast_signed();
         write!(
             f,
             "{entries} entries; sums of numbers {numbers}, claims {claims}, booking days {booked}, cents {cents}"
@@ -56,13 +59,15 @@ impl fmt::Display for Sums {
 
 // Prints what one register answered.
 pub fn show_report(rt: &HostRuntime, name: &str, report: Report) -> anyhow::Result<()> {
-    let capacity = report.capacity;
-    let claim_bound = report.claim_bound;
-    let accepted = report.accepted;
-    let len = report.len;
-    let openings = report.openings;
-    let walked = report.walked;
-    let read = report.read;
+    let Report {
+        capacity,
+        claim_bound,
+        accepted,
+        len,
+        openings,
+        walked,
+        read,
+    } = report;
     println!(rt; "{name}: capacity {capacity}, claim bound {claim_bound}")?;
     println!(rt;
         "  booked     {accepted} entries accepted; length {len}, {openings} claims opened"

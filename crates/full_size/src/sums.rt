@@ -3,9 +3,10 @@ ghost use Rattle.std.specs.Prelude.{◌≡◌};
 ghost use Rattle.full_size.specs.Readings.{cents_of, sums_after};
 
 use register::entry::{Content, Entry};
+use register::numbered::NumberedEntry;
 
 // How many entries were read, and the sums of their numbers, claims, booking days and amounts, modulo 2^64.
-#[derive(Clone, Copy, PartialEq)]
+#[derive(Clone, Copy, PartialEq, Default)]
 pub struct Sums {
     pub entries: u64,
     pub numbers: u64,
@@ -14,34 +15,23 @@ pub struct Sums {
     pub cents: u64,
 }
 
-// Nothing was read.
-pub const NO_SUMS: Sums = Sums {
-    entries: 0,
-    numbers: 0,
-    claims: 0,
-    booked: 0,
-    cents: 0,
-};
-
 // The amount of an entry in cents, 0 where it has none.
 fn cents(entry: Entry) -> i64
     ensures { result ≡ cents_of entry }
 {
     match entry.content {
-        Content::Payment(payment) => payment.amount.cents(),
-        Content::ReserveChange(change) => change.amount.cents(),
-        Content::Correction(correction) => correction.amount.cents(),
-        Content::Opening(_) => 0,
-        Content::Void(_) => 0,
-        Content::Redating(_) => 0,
+        Content::Payment(terms) | Content::ReserveChange(terms) => terms.amount.cents(),
+        Content::Correction(correction) => correction.terms.amount.cents(),
+        Content::Opening(_) | Content::Void(_) | Content::Redating(_) => 0,
     }
 }
 
 impl Sums {
     // One entry more.
-    pub fn after(self, number: u32, entry: Entry) -> Sums
-        ensures { result ≡ sums_after self number entry }
+    pub fn after(self, read: NumberedEntry) -> Sums
+        ensures { result ≡ sums_after self read }
     {
+        let NumberedEntry { number, entry } = read;
         Sums {
             entries: self.entries.wrapping_add(1),
             numbers: self.numbers.wrapping_add(number as u64),

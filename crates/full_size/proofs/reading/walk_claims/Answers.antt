@@ -7,5 +7,5 @@ pub loop-claim-preserved : goal.loop-claim-preserved
 loop-claim-preserved g c =
     let es = (g.R.Register.meaning c.args.register.now).entries in
     c.walk_claim-sums.ensures
-    ∙ ap (walked es (c.loop-claim.claim + 1) 0) c.loop-claim.invariant
+    ∙ ap (walked es (c.loop-claim.claim + 1)) c.loop-claim.invariant
     ∙ claim_on es c.loop-claim.claim c.args.start

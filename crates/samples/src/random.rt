@@ -1,5 +1,6 @@
 // A source of numbers that look random and are the same in every run.
-ghost use Rattle.std.specs.Prelude.{◌≡◌, ◌+◌, ◌*◌, ◌/◌, ◌%◌, ◌^◌, max};
+ghost use Rattle.std.specs.Prelude.{◌≡◌};
+ghost use Rattle.samples.specs.Samples.{drawn, next};
 
 // A linear congruential generator modulo 2^64.
 #[derive(Clone, Copy)]
@@ -10,8 +11,8 @@ pub struct Random {
 impl Random {
     // The next number below a bound.
     pub fn below(&mut self, bound: u64) -> u64
-        ensures state { self.new.state ≡ (self.old.state * 6364136223846793005 + 1442695040888963407) % 2 ^ 64 }
-        ensures value { result ≡ self.new.state / 2 ^ 33 % max bound 1 }
+        ensures state { self.new.state ≡ next self.old.state }
+        ensures value { result ≡ drawn self.new.state bound }
     {
         self.state = self
             .state

@@ -1,0 +1,9 @@
+// What the programs make large books of claims from, the same in every run.
+#![tactic(auto)]
+
+pub mod arguments;
+pub mod happening;
+pub mod leftover;
+pub mod random;
+pub mod samples;
+pub mod spread;
