@@ -1,19 +1,21 @@
 // Keeping the book on a register.
 use crate::rows::Rows;
-use anyhow::anyhow;
+use crate::step::Step;
+use anyhow::{Context, anyhow};
 use cube::cube::Cube;
 use cube::request::{Answer, Request};
 use cube::sheet::sheet_length;
 use cube::ticket::Ticket;
 use register::register::Register;
 use std::alloc::Global;
+use std::mem;
 use values::period::PeriodCohort;
 
 // The mark of the cube's tickets; one cube at a time is kept, so that any number serves.
 const MARK: u32 = 1;
 
 // What was answered, the sheet that stood at the end of last year, and the one at the end of the quarter.
-#[derive(Drop)]
+#[derive(PartialEq, Drop)]
 pub struct Kept {
     pub book: Vec<Answer>,
     pub year_end: Vec<i64>,
@@ -23,57 +25,79 @@ pub struct Kept {
     pub open_drafts: usize,
 }
 
-// Runs one row of requests.
-fn serve<R: Register>(
+// A cube with the sheet that its calls keep, and a drawer for its tickets.
+struct Desk<R> {
     heap: Global,
-    cube: &mut Cube<R, PeriodCohort>,
-    sheet: &mut [i64],
-    drawer: &mut Vec<Ticket>,
-    row: &[Request],
-) -> anyhow::Result<Vec<Answer>> {
-    match cube.run(heap, sheet, drawer, row) {
-        Ok(answers) => Ok(answers),
-        Err(_) => Err(anyhow!("memory ran out in a row of requests")),
+    cube: Cube<R, PeriodCohort>,
+    sheet: Vec<i64>,
+    drawer: Vec<Ticket>,
+}
+
+impl<R: Register + Drop> Desk<R> {
+    // A cube that is started on an empty register.
+    fn new(heap: Global, register: R, cohort: PeriodCohort) -> anyhow::Result<Desk<R>> {
+        let mut sheet = vec![in heap; 0i64; sheet_length(&cohort)]?;
+        let mut cube = Cube::new(register, cohort);
+        cube.start(sheet.as_mut_slice(), MARK)
+            .context("the cube does not start")?;
+        Ok(Desk {
+            heap,
+            cube,
+            sheet,
+            drawer: Vec::new(heap),
+        })
+    }
+
+    // Runs one row of requests.
+    fn serve(&mut self, row: &[Step]) -> anyhow::Result<Vec<Answer>> {
+        let requests: Vec<Request> = row.iter().map(|step| step.request).collect(self.heap)?;
+        self.cube
+            .run(
+                self.heap,
+                self.sheet.as_mut_slice(),
+                &mut self.drawer,
+                requests.as_slice(),
+            )
+            .map_err(|_| anyhow!("memory ran out in a row of requests"))
+    }
+
+    // Runs the three rows of requests, and hands over the sheet.
+    fn serve_all(&mut self, rows: &Rows) -> anyhow::Result<Kept> {
+        let book = self.serve(rows.book.as_slice())?;
+        let year_end = self.sheet.clone()?;
+        let quarter = self.serve(rows.quarter.as_slice())?;
+        let queries = self.serve(rows.queries.as_slice())?;
+        Ok(Kept {
+            book,
+            year_end,
+            quarter,
+            queries,
+            sheet: mem::replace(&mut self.sheet, Vec::new(self.heap)),
+            open_drafts: self.drawer.len(),
+        })
+    }
+
+    // Ends the tickets that are left, as a ticket cannot be let go.
+    fn close(self) {
+        let Desk {
+            heap: _,
+            mut cube,
+            sheet: _,
+            drawer,
+        } = self;
+        cube.drop_all(drawer);
     }
 }
 
-// Starts the cube, and runs the three rows of requests.
-fn serve_all<R: Register>(
-    heap: Global,
-    cube: &mut Cube<R, PeriodCohort>,
-    cohort: PeriodCohort,
-    drawer: &mut Vec<Ticket>,
-    rows: &Rows,
-) -> anyhow::Result<Kept> {
-    let mut sheet = vec![in heap; 0i64; sheet_length(&cohort)]?;
-    let Ok(()) = cube.start(&mut sheet, MARK) else {
-        return Err(anyhow!("the cube does not start"));
-    };
-    let book = serve(heap, cube, &mut sheet, drawer, &rows.book)?;
-    let year_end = sheet.clone()?;
-    let quarter = serve(heap, cube, &mut sheet, drawer, &rows.quarter)?;
-    let queries = serve(heap, cube, &mut sheet, drawer, &rows.queries)?;
-    let open_drafts = drawer.len();
-    Ok(Kept {
-        book,
-        year_end,
-        quarter,
-        queries,
-        sheet,
-        open_drafts,
-    })
-}
-
-// Keeps the book on an empty register. The tickets that are left are ended, as a ticket cannot be let go.
+// Keeps the book on an empty register.
 pub fn keep<R: Register + Drop>(
     heap: Global,
     register: R,
     cohort: PeriodCohort,
     rows: &Rows,
 ) -> anyhow::Result<Kept> {
-    let mut cube = Cube::new(register, cohort);
-    let mut drawer = Vec::new(heap);
-    let kept = serve_all(heap, &mut cube, cohort, &mut drawer, rows);
-    cube.drop_all(drawer);
+    let mut desk = Desk::new(heap, register, cohort)?;
+    let kept = desk.serve_all(rows);
+    desk.close();
     kept
 }

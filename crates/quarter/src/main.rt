@@ -10,30 +10,33 @@ mod quarter;
 mod registers;
 mod reserves;
 mod rows;
+mod step;
 mod story;
 mod table;
-mod text;
 mod words;
 
-use anyhow::anyhow;
-use compare::agree;
 use registers::{keep_flat, keep_paged};
 use rows::make_rows;
+use story::Story;
 
 // The parts of the story in their order.
 fn run(rt: &HostRuntime) -> anyhow::Result<()> {
     opening::show_purpose(rt)?;
-    let Some(cohort) = opening::show_values(rt)? else {
-        return Err(anyhow!("the cohort is refused"));
-    };
+    let cohort = opening::show_values(rt)?;
     opening::show_place(rt, &cohort)?;
     let rows = make_rows(rt.alloc())?;
     let flat = keep_flat(rt.alloc(), cohort, &rows)?;
     let paged = keep_paged(rt.alloc(), cohort, &rows)?;
-    story::tell_book(rt, &cohort, &rows, &flat)?;
-    story::tell_quarter(rt, &rows, &flat)?;
-    story::tell_queries(rt, &cohort, &rows, &flat)?;
-    story::tell_registers(rt, &flat, agree(&flat, &paged))
+    let story = Story {
+        rt,
+        cohort: &cohort,
+        rows: &rows,
+        kept: &flat,
+    };
+    story.tell_book()?;
+    story.tell_quarter()?;
+    story.tell_queries()?;
+    story.tell_registers(&paged)
 }
 
 // An error of writing, or want of memory, is printed and ends the program with status 1.

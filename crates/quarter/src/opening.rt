@@ -1,12 +1,10 @@
 // What the program says before the first request.
-use crate::text::Dated;
-use anyhow::anyhow;
+use anyhow::Context;
 use register::figures::proved_figures;
 use values::amount::Amount;
 use values::claim_days::ClaimDays;
 use values::cohort::{Cohort, LabelledCohort};
 use values::day::Day;
-use values::fault::ValueFault;
 use values::period::{Anchor, PeriodCohort};
 use values::place::Place;
 
@@ -50,10 +48,7 @@ pub fn show_purpose(rt: &HostRuntime) -> anyhow::Result<()> {
 // Says what a number is as a day.
 fn show_day(rt: &HostRuntime, number: u64) -> anyhow::Result<()> {
     match Day::new(number) {
-        Ok(day) => {
-            let day = Dated(day);
-            println!(rt; "  {number} as a day: {day}")?;
-        }
+        Ok(day) => println!(rt; "  {number} as a day: {day}")?,
         Err(fault) => {
             let refusal = fault.number();
             println!(rt;
@@ -80,44 +75,35 @@ fn show_amount(rt: &HostRuntime, cents: i64) -> anyhow::Result<()> {
 
 // Makes the cohort of four years by four with periods of this many months, and says what came of it.
 fn make_cohort(rt: &HostRuntime, months: u32) -> anyhow::Result<Option<PeriodCohort>> {
-    match PeriodCohort::new(Anchor::Occurrence, months, 2021, 1, 4, 4) {
-        Ok(cohort) => {
-            println!(rt; "  triangles with periods of {months} months: made")?;
-            Ok(Some(cohort))
-        }
+    let made = PeriodCohort::new(Anchor::Occurrence, months, 2021, 1, 4, 4);
+    match made {
+        Ok(_) => println!(rt; "  triangles with periods of {months} months: made")?,
         Err(fault) => {
             let refusal = fault.number();
             println!(rt;
-                "  triangles with periods of {months} months: refused, number {refusal}: a period has 1, 3, 6 or 12 months"
+                "  triangles with periods of {months} months: refused, number {refusal}: {fault}"
             )?;
-            Ok(None)
         }
     }
+    Ok(made.ok())
 }
 
 // Says what days, amounts and periods are taken, and makes the cohort: years from 2021, by the day of occurrence.
-pub fn show_values(rt: &HostRuntime) -> anyhow::Result<Option<PeriodCohort>> {
+pub fn show_values(rt: &HostRuntime) -> anyhow::Result<PeriodCohort> {
     println!(rt; "{VALUES}")?;
     show_day(rt, 20240229)?;
     show_day(rt, 20230229)?;
     show_amount(rt, 125_000)?;
     show_amount(rt, 0)?;
     make_cohort(rt, 13)?;
-    make_cohort(rt, 12)
-}
-
-// The claim days of the loss that is placed below.
-fn late_loss() -> Result<ClaimDays, ValueFault> {
-    ClaimDays::new(20210701, 20211230, 20220111)
+    make_cohort(rt, 12)?.context("the cohort is refused")
 }
 
 // Says where a claim puts its report day.
 pub fn show_place<C: LabelledCohort>(rt: &HostRuntime, cohort: &C) -> anyhow::Result<()> {
-    let Ok(claim_days) = late_loss() else {
-        return Err(anyhow!("the example has a number that is no day"));
-    };
-    let occurrence = Dated(claim_days.occurrence);
-    let report = Dated(claim_days.report);
+    let claim_days = ClaimDays::new(20210701, 20211230, 20220111)?;
+    let occurrence = claim_days.occurrence;
+    let report = claim_days.report;
     print!(rt; "\nA loss of {occurrence} that is reported on {report} counts in ")?;
     match cohort.place(claim_days, claim_days.report) {
         Place::Cell { row, column } => {

@@ -1,12 +1,10 @@
 // The parts of the story, each told from what was answered.
-use crate::book::BOOK_WORDS;
 use crate::compare::same_cells;
 use crate::keeping::Kept;
-use crate::quarter::{QUARTER_WORDS, QUERY_WORDS};
 use crate::rows::Rows;
-use crate::table::{show_beside, show_sheet, show_triangle};
+use crate::table::Shown;
 use crate::words::tell;
-use anyhow::anyhow;
+use anyhow::bail;
 use cube::measure::Measure;
 use cube::request::Answer;
 use values::cohort::LabelledCohort;
@@ -50,105 +48,113 @@ const LAST_YEAR: u64 = 20231231;
 
 const TODAY: u64 = 20240331;
 
-// A value day.
-fn day(number: u64) -> anyhow::Result<Day> {
-    match Day::new(number) {
-        Ok(day) => Ok(day),
-        Err(_) => Err(anyhow!("a value day is no day")),
+// What is told: the rows that were asked, and what was answered on one register.
+#[derive_where(Clone, Copy)]
+pub struct Story<'a, C> {
+    pub rt: &'a HostRuntime,
+    pub cohort: &'a C,
+    pub rows: &'a Rows,
+    pub kept: &'a Kept,
+}
+
+impl<'a, C: LabelledCohort> Story<'a, C> {
+    // A sheet, to be shown as valued at a day.
+    fn sheet(&self, cells: &'a [i64], valued: u64) -> anyhow::Result<Shown<'a, C>> {
+        let valued = Day::new(valued)?;
+        Ok(Shown {
+            rt: self.rt,
+            cohort: self.cohort,
+            cells,
+            valued,
+        })
     }
-}
 
-// The triangles that a query drew.
-fn drawn(answers: &[Answer], index: usize) -> anyhow::Result<&[i64]> {
-    match answers.get(index) {
-        Some(Answer::Drawn(cells)) => Ok(cells.as_slice()),
-        _ => Err(anyhow!("a query drew nothing")),
+    // Says whether the triangles that were drawn are those of a sheet.
+    fn tell_same(&self, what: &str, drawn: &[i64], sheet: &[i64]) -> anyhow::Result<()> {
+        let rt = self.rt;
+        let verdict = if same_cells(drawn, sheet) {
+            "equal, cell by cell"
+        } else {
+            "NOT EQUAL"
+        };
+        println!(rt; "\nHeld against {what}: {verdict}.")?;
+        Ok(())
     }
-}
 
-// Says whether the triangles that were drawn are those of a sheet.
-fn tell_same(rt: &HostRuntime, what: &str, drawn: &[i64], sheet: &[i64]) -> anyhow::Result<()> {
-    let verdict = if same_cells(drawn, sheet) {
-        "equal, cell by cell"
-    } else {
-        "NOT EQUAL"
-    };
-    println!(rt; "\nHeld against {what}: {verdict}.")?;
-    Ok(())
-}
+    // Tells the book until the end of last year, and shows its sheet.
+    pub fn tell_book(&self) -> anyhow::Result<()> {
+        let rt = self.rt;
+        rt.println(BOOK)?;
+        tell(rt, &self.rows.book, &self.kept.book)?;
+        rt.println(YEAR_END)?;
+        self.sheet(&self.kept.year_end, LAST_YEAR)?.show()
+    }
 
-// Tells the book until the end of last year, and shows its sheet.
-pub fn tell_book<C: LabelledCohort>(
-    rt: &HostRuntime,
-    cohort: &C,
-    rows: &Rows,
-    kept: &Kept,
-) -> anyhow::Result<()> {
-    rt.println(BOOK)?;
-    tell(rt, &BOOK_WORDS, &rows.book, &kept.book)?;
-    rt.println(YEAR_END)?;
-    show_sheet(rt, cohort, &kept.year_end, day(LAST_YEAR)?)
-}
+    // Tells the quarter.
+    pub fn tell_quarter(&self) -> anyhow::Result<()> {
+        let rt = self.rt;
+        rt.println(QUARTER)?;
+        tell(rt, &self.rows.quarter, &self.kept.quarter)?;
+        let open = self.kept.open_drafts;
+        println!(rt;
+            "\n  Tickets left in the drawer: {open}. A program that forgets one does not compile, so its draft\n  is dropped at the end."
+        )?;
+        Ok(())
+    }
 
-// Tells the quarter.
-pub fn tell_quarter(rt: &HostRuntime, rows: &Rows, kept: &Kept) -> anyhow::Result<()> {
-    rt.println(QUARTER)?;
-    tell(rt, &QUARTER_WORDS, &rows.quarter, &kept.quarter)?;
-    let open = kept.open_drafts;
-    println!(rt;
-        "\n  Tickets left in the drawer: {open}. A program that forgets one does not compile, so its draft\n  is dropped at the end."
-    )?;
-    Ok(())
-}
+    // Tells the queries, and shows the triangles of today beside those of the end of last year.
+    pub fn tell_queries(&self) -> anyhow::Result<()> {
+        let rt = self.rt;
+        rt.println(QUERIES)?;
+        tell(rt, &self.rows.queries, &self.kept.queries)?;
+        let [
+            Answer::Drawn(today),
+            Answer::Drawn(then),
+            Answer::Drawn(hindsight),
+        ] = self.kept.queries.as_slice()
+        else {
+            bail!("a query drew nothing");
+        };
+        let today = self.sheet(today.as_slice(), TODAY)?;
+        let then = self.sheet(then.as_slice(), LAST_YEAR)?;
+        rt.println("\nTODAY, the end of March 2024")?;
+        today.show()?;
+        self.tell_same(
+            "the sheet that the calls kept",
+            today.cells,
+            &self.kept.sheet,
+        )?;
+        rt.println("\nTHEN, the end of 2023, drawn again")?;
+        then.show()?;
+        self.tell_same(
+            "the sheet that stood at the end of 2023",
+            then.cells,
+            &self.kept.year_end,
+        )?;
+        rt.println(RECALLED)?;
+        rt.println("\nTHE TWO SIDE BY SIDE, the sum of each row")?;
+        then.show_beside(&today)?;
+        rt.println(HINDSIGHT)?;
+        self.sheet(hindsight.as_slice(), LAST_YEAR)?
+            .show_triangle(Measure::Paid)
+    }
 
-// Tells the queries, and shows the triangles of today beside those of the end of last year.
-pub fn tell_queries<C: LabelledCohort>(
-    rt: &HostRuntime,
-    cohort: &C,
-    rows: &Rows,
-    kept: &Kept,
-) -> anyhow::Result<()> {
-    rt.println(QUERIES)?;
-    let answers = &kept.queries;
-    tell(rt, &QUERY_WORDS, &rows.queries, answers)?;
-    let today = drawn(answers, 0)?;
-    let then = drawn(answers, 1)?;
-    rt.println("\nTODAY, the end of March 2024")?;
-    show_sheet(rt, cohort, today, day(TODAY)?)?;
-    tell_same(rt, "the sheet that the calls kept", today, &kept.sheet)?;
-    rt.println("\nTHEN, the end of 2023, drawn again")?;
-    show_sheet(rt, cohort, then, day(LAST_YEAR)?)?;
-    let stood = &kept.year_end;
-    tell_same(rt, "the sheet that stood at the end of 2023", then, stood)?;
-    rt.println(RECALLED)?;
-    rt.println("\nTHE TWO SIDE BY SIDE, the sum of each row")?;
-    show_beside(rt, cohort, then, today)?;
-    rt.println(HINDSIGHT)?;
-    let hindsight = drawn(answers, 2)?;
-    show_triangle(
-        rt,
-        cohort,
-        hindsight,
-        Measure::Paid,
-        "PAID",
-        day(LAST_YEAR)?,
-    )
-}
-
-// Says whether the two registers agreed.
-pub fn tell_registers(rt: &HostRuntime, kept: &Kept, agreed: bool) -> anyhow::Result<()> {
-    rt.println(REGISTERS)?;
-    let book = kept.book.len();
-    let quarter = kept.quarter.len();
-    let queries = kept.queries.len();
-    println!(rt;
-        "Answers compared: {book} until the end of 2023, {quarter} in the quarter, {queries} at its end."
-    )?;
-    let verdict = if agreed {
-        "All answers and both sheets agree."
-    } else {
-        "THEY DO NOT AGREE."
-    };
-    rt.println(verdict)?;
-    Ok(())
+    // Says whether another register gave the same.
+    pub fn tell_registers(&self, other: &Kept) -> anyhow::Result<()> {
+        let rt = self.rt;
+        rt.println(REGISTERS)?;
+        let book = self.kept.book.len();
+        let quarter = self.kept.quarter.len();
+        let queries = self.kept.queries.len();
+        println!(rt;
+            "Answers compared: {book} until the end of 2023, {quarter} in the quarter, {queries} at its end."
+        )?;
+        let verdict = if self.kept == other {
+            "All answers and both sheets agree."
+        } else {
+            "THEY DO NOT AGREE."
+        };
+        rt.println(verdict)?;
+        Ok(())
+    }
 }

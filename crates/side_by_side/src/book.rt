@@ -1,19 +1,9 @@
 // The small book of claims.
-use register::entry::{
-    Content, Correction, Entry, Opening, Payment, Redating, ReserveChange, Void,
-};
+use register::entry::{Content, Correction, Entry, Terms, Void};
 use values::amount::Amount;
 use values::claim_days::ClaimDays;
 use values::day::Day;
 use values::fault::ValueFault;
-
-// The numbers of the three claim days.
-#[derive(Clone, Copy)]
-struct DayNumbers {
-    inception: u64,
-    occurrence: u64,
-    report: u64,
-}
 
 // An entry with these numbers, or the fault of the first that is none.
 fn entry(booked: u64, claim: u32, content: Content) -> Result<Entry, ValueFault> {
@@ -25,23 +15,19 @@ fn entry(booked: u64, claim: u32, content: Content) -> Result<Entry, ValueFault>
     })
 }
 
-fn claim_days(days: DayNumbers) -> Result<ClaimDays, ValueFault> {
-    ClaimDays::new(days.inception, days.occurrence, days.report)
+fn terms(effective: u64, cents: i64) -> Result<Terms, ValueFault> {
+    let effective = Day::new(effective)?;
+    let amount = Amount::new(cents)?;
+    Ok(Terms { effective, amount })
 }
 
-fn opening(booked: u64, claim: u32, days: DayNumbers) -> Result<Entry, ValueFault> {
-    let claim_days = claim_days(days)?;
-    entry(booked, claim, Content::Opening(Opening { claim_days }))
+fn opening(booked: u64, claim: u32, claim_days: ClaimDays) -> Result<Entry, ValueFault> {
+    entry(booked, claim, Content::Opening(claim_days))
 }
 
 fn payment(booked: u64, claim: u32, effective: u64, cents: i64) -> Result<Entry, ValueFault> {
-    let effective = Day::new(effective)?;
-    let amount = Amount::new(cents)?;
-    entry(
-        booked,
-        claim,
-        Content::Payment(Payment { effective, amount }),
-    )
+    let terms = terms(effective, cents)?;
+    entry(booked, claim, Content::Payment(terms))
 }
 
 fn reserve_change(
@@ -50,13 +36,8 @@ fn reserve_change(
     effective: u64,
     cents: i64,
 ) -> Result<Entry, ValueFault> {
-    let effective = Day::new(effective)?;
-    let amount = Amount::new(cents)?;
-    entry(
-        booked,
-        claim,
-        Content::ReserveChange(ReserveChange { effective, amount }),
-    )
+    let terms = terms(effective, cents)?;
+    entry(booked, claim, Content::ReserveChange(terms))
 }
 
 fn correction(
@@ -66,16 +47,11 @@ fn correction(
     effective: u64,
     cents: i64,
 ) -> Result<Entry, ValueFault> {
-    let effective = Day::new(effective)?;
-    let amount = Amount::new(cents)?;
+    let terms = terms(effective, cents)?;
     entry(
         booked,
         claim,
-        Content::Correction(Correction {
-            names,
-            effective,
-            amount,
-        }),
+        Content::Correction(Correction { names, terms }),
     )
 }
 
@@ -83,9 +59,8 @@ fn void(booked: u64, claim: u32, names: u32) -> Result<Entry, ValueFault> {
     entry(booked, claim, Content::Void(Void { names }))
 }
 
-fn redating(booked: u64, claim: u32, days: DayNumbers) -> Result<Entry, ValueFault> {
-    let claim_days = claim_days(days)?;
-    entry(booked, claim, Content::Redating(Redating { claim_days }))
+fn redating(booked: u64, claim: u32, claim_days: ClaimDays) -> Result<Entry, ValueFault> {
+    entry(booked, claim, Content::Redating(claim_days))
 }
 
 // What is left in memory from other work: an entry that no register takes.
@@ -96,26 +71,10 @@ pub fn leftover() -> Result<Entry, ValueFault> {
 // Twelve entries, booked on the days from March to July 2024. Claim 4 is one more than the registers take, and the last
 // entry one more than they hold.
 pub fn small_book() -> Result<[Entry; 12], ValueFault> {
-    let first = DayNumbers {
-        inception: 20240101,
-        occurrence: 20240210,
-        report: 20240220,
-    };
-    let second = DayNumbers {
-        inception: 20230701,
-        occurrence: 20240315,
-        report: 20240318,
-    };
-    let third = DayNumbers {
-        inception: 20231001,
-        occurrence: 20240103,
-        report: 20240430,
-    };
-    let earlier = DayNumbers {
-        inception: 20231001,
-        occurrence: 20231229,
-        report: 20240430,
-    };
+    let first = ClaimDays::new(20240101, 20240210, 20240220)?;
+    let second = ClaimDays::new(20230701, 20240315, 20240318)?;
+    let third = ClaimDays::new(20231001, 20240103, 20240430)?;
+    let earlier = ClaimDays::new(20231001, 20231229, 20240430)?;
     Ok([
         opening(20240301, 1, first)?,
         reserve_change(20240301, 1, 20240301, 500_000)?,

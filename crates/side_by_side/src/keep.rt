@@ -1,11 +1,11 @@
 // Keeping a book on two registers, and saying what they answer.
-use crate::compare::ask_both;
+use crate::compare::{Answers, ask_both};
 use crate::request::{Answer, Request};
 use register::entry::Entry;
 use register::register::Register;
 
 // How many requests were put to both registers, and to how many they answered differently.
-#[derive(Clone, Copy)]
+#[derive(Clone, Copy, Default)]
 pub struct Tally {
     pub asked: u32,
     pub differing: u32,
@@ -21,103 +21,88 @@ impl Tally {
     }
 }
 
-// Puts a request to both registers, prints it with both answers, and counts it. The answer is that of the flat log.
-fn ask<F: Register, P: Register>(
-    rt: &HostRuntime,
-    flat: &mut F,
-    paged: &mut P,
-    tally: &mut Tally,
-    request: Request,
-) -> anyhow::Result<Answer> {
-    let answers = ask_both(flat, paged, request);
-    let first = answers.first;
-    let second = answers.second;
-    tally.count(first == second);
-    println!(rt; "{request}")?;
-    println!(rt; "    flat log        {first}")?;
-    println!(rt; "    paged register  {second}")?;
-    Ok(first)
+// Two registers that are asked the same, and what came of it.
+#[derive(Drop)]
+pub struct Desk<'a, F, P> {
+    rt: &'a HostRuntime,
+    flat: F,
+    paged: P,
+    tally: Tally,
 }
 
-// Books every entry.
-fn book_all<F: Register, P: Register>(
-    rt: &HostRuntime,
-    flat: &mut F,
-    paged: &mut P,
-    tally: &mut Tally,
-    book: &[Entry],
-) -> anyhow::Result<()> {
-    println!(rt)?;
-    println!(rt; "BOOKING")?;
-    println!(rt)?;
-    for entry in book {
-        let _ = ask(rt, flat, paged, tally, Request::Add(*entry))?;
+impl<'a, F: Register, P: Register> Desk<'a, F, P> {
+    // Two registers that were asked nothing yet.
+    pub fn new(rt: &'a HostRuntime, flat: F, paged: P) -> Desk<'a, F, P> {
+        Desk {
+            rt,
+            flat,
+            paged,
+            tally: Tally::default(),
+        }
     }
-    Ok(())
-}
 
-// Asks for every number that a register tells of itself, and for every entry by its number.
-fn ask_figures<F: Register, P: Register>(
-    rt: &HostRuntime,
-    flat: &mut F,
-    paged: &mut P,
-    tally: &mut Tally,
-) -> anyhow::Result<()> {
-    println!(rt)?;
-    println!(rt; "WHAT THE REGISTERS HOLD")?;
-    println!(rt)?;
-    let _ = ask(rt, flat, paged, tally, Request::Length)?;
-    let _ = ask(rt, flat, paged, tally, Request::Capacity)?;
-    let _ = ask(rt, flat, paged, tally, Request::ClaimBound)?;
-    let _ = ask(rt, flat, paged, tally, Request::Openings)?;
-    for number in 0..flat.len().saturating_add(2) {
-        let _ = ask(rt, flat, paged, tally, Request::Entry(number))?;
+    // Puts a request to both registers, prints it with both answers, and counts it. The answer is that of the flat log.
+    fn ask(&mut self, request: Request) -> anyhow::Result<Answer> {
+        let Answers { first, second } = ask_both(&mut self.flat, &mut self.paged, request);
+        self.tally.count(first == second);
+        let rt = self.rt;
+        println!(rt; "{request}\n    flat log        {first}\n    paged register  {second}")?;
+        Ok(first)
     }
-    Ok(())
-}
 
-// Goes through the entries of a claim, from each to the next.
-fn walk_claim<F: Register, P: Register>(
-    rt: &HostRuntime,
-    flat: &mut F,
-    paged: &mut P,
-    tally: &mut Tally,
-    claim: u32,
-) -> anyhow::Result<()> {
-    let _ = ask(rt, flat, paged, tally, Request::EntriesOfClaim(claim))?;
-    let mut after = 0;
-    // one step for each entry at most, and a last one that finds none
-    for _ in 0..flat.len().saturating_add(1) {
-        let request = Request::NextOfClaim { claim, after };
-        let Answer::Numbered(answer) = ask(rt, flat, paged, tally, request)? else {
-            break;
-        };
-        let Some(found) = answer else {
-            break;
-        };
-        after = found.number;
+    // Books every entry.
+    fn book_all(&mut self, book: &[Entry]) -> anyhow::Result<()> {
+        let rt = self.rt;
+        println!(rt; "\nBOOKING\n")?;
+        for entry in book {
+            self.ask(Request::Add(*entry))?;
+        }
+        Ok(())
     }
-    Ok(())
-}
 
-// Keeps the book on both registers, puts every question to both, and prints all of it.
-pub fn keep<F: Register, P: Register>(
-    rt: &HostRuntime,
-    flat: &mut F,
-    paged: &mut P,
-    book: &[Entry],
-) -> anyhow::Result<Tally> {
-    let mut tally = Tally {
-        asked: 0,
-        differing: 0,
-    };
-    book_all(rt, flat, paged, &mut tally, book)?;
-    ask_figures(rt, flat, paged, &mut tally)?;
-    println!(rt)?;
-    println!(rt; "THE ENTRIES OF EACH CLAIM")?;
-    println!(rt)?;
-    for claim in 0..flat.claim_bound().saturating_add(2) {
-        walk_claim(rt, flat, paged, &mut tally, claim)?;
+    // Asks for every number that a register tells of itself, and for every entry by its number.
+    fn ask_figures(&mut self) -> anyhow::Result<()> {
+        let rt = self.rt;
+        println!(rt; "\nWHAT THE REGISTERS HOLD\n")?;
+        for request in [
+            Request::Length,
+            Request::Capacity,
+            Request::ClaimBound,
+            Request::Openings,
+        ] {
+            self.ask(request)?;
+        }
+        for number in 0..self.flat.len().saturating_add(2) {
+            self.ask(Request::Entry(number))?;
+        }
+        Ok(())
     }
-    Ok(tally)
+
+    // Goes through the entries of a claim, from each to the next. The steps are asked for, and not taken by an iterator, since
+    // each is a request to both registers.
+    fn walk_claim(&mut self, claim: u32) -> anyhow::Result<()> {
+        self.ask(Request::EntriesOfClaim(claim))?;
+        let mut after = 0;
+        // one step for each entry at most, and a last one that finds none
+        for _ in 0..self.flat.len().saturating_add(1) {
+            let request = Request::NextOfClaim { claim, after };
+            let Answer::Numbered(Some(found)) = self.ask(request)? else {
+                break;
+            };
+            after = found.number;
+        }
+        Ok(())
+    }
+
+    // Keeps the book on both registers, puts every question to both, and prints all of it.
+    pub fn keep(&mut self, book: &[Entry]) -> anyhow::Result<Tally> {
+        self.book_all(book)?;
+        self.ask_figures()?;
+        let rt = self.rt;
+        println!(rt; "\nTHE ENTRIES OF EACH CLAIM\n")?;
+        for claim in 0..self.flat.claim_bound().saturating_add(2) {
+            self.walk_claim(claim)?;
+        }
+        Ok(self.tally)
+    }
 }

@@ -8,25 +8,16 @@ mod request;
 mod serve;
 mod text;
 
-use anyhow::anyhow;
 use book::{leftover, small_book};
-use keep::{Tally, keep};
-use register::cards::{ClaimCard, PageCard};
-use register::flat::FlatLog;
-use register::numbered::NumberedEntry;
-use register::paged::PagedRegister;
+use keep::{Desk, Tally};
+use memory::flat::FlatMemory;
+use memory::paged::PagedMemory;
 
 // How many entries both registers take.
-const ENTRIES: usize = 10;
+const ENTRIES: u32 = 10;
 
 // How many claims both registers take.
-const CLAIMS: usize = 3;
-
-// The pages of the paged register: their slots, less 15 for each claim, are enough for ten entries.
-const PAGES: usize = 4;
-
-// The slots of these pages.
-const SLOTS: usize = 16 * PAGES;
+const CLAIMS: u32 = 3;
 
 // What the program does, for a reader who knows neither registers nor code.
 const OPENING: &str = "\
@@ -45,11 +36,8 @@ answer.
 
 // Says whether the registers agreed.
 fn show_verdict(rt: &HostRuntime, tally: Tally) -> anyhow::Result<()> {
-    let asked = tally.asked;
-    let differing = tally.differing;
-    println!(rt)?;
-    println!(rt; "VERDICT")?;
-    println!(rt)?;
+    let Tally { asked, differing } = tally;
+    println!(rt; "\nVERDICT\n")?;
     if differing == 0 {
         println!(rt; "The registers agree: {asked} requests, and the same answer to each.")?;
     } else {
@@ -65,29 +53,9 @@ fn run(rt: &HostRuntime) -> anyhow::Result<()> {
     println!(rt;
         "Both get memory for {ENTRIES} entries and {CLAIMS} claims, full of what other work left there."
     )?;
-    let (Ok(book), Ok(old)) = (small_book(), leftover()) else {
-        return Err(anyhow!("the book has a number that is no day or no amount"));
-    };
-    let mut entries = vec![in rt.alloc(); old; ENTRIES]?;
-    let mut flat = FlatLog::new(entries.as_mut_slice(), CLAIMS as u32);
-    let mut page_cards = vec![in rt.alloc(); PageCard { next: 77 }; PAGES]?;
-    let mut slots = vec![in rt.alloc(); NumberedEntry {
-        number: 77,
-        entry: old
-    }; SLOTS]?;
-    let mut claim_cards = vec![in rt.alloc(); ClaimCard {
-        first: 77,
-        last: 77,
-        spare: 77
-    }; CLAIMS]?;
-    let mut places = vec![in rt.alloc(); 77u32; ENTRIES]?;
-    let mut paged = PagedRegister::new(
-        page_cards.as_mut_slice(),
-        slots.as_mut_slice(),
-        claim_cards.as_mut_slice(),
-        places.as_mut_slice(),
-    );
-    let tally = keep(rt, &mut flat, &mut paged, &book)?;
+    let mut flat = FlatMemory::filled(rt.alloc(), leftover()?, ENTRIES, CLAIMS)?;
+    let mut paged = PagedMemory::filled(rt.alloc(), leftover()?, ENTRIES, CLAIMS)?;
+    let tally = Desk::new(rt, flat.register(), paged.register()).keep(&small_book()?)?;
     show_verdict(rt, tally)
 }
 

@@ -3,19 +3,14 @@ ghost use Rattle.std.specs.Prelude.{◌≡◌};
 ghost use Rattle.side_by_side.specs.Requests.{answer_to, count_of, meaning_after};
 
 use crate::request::{Answer, Request};
+use register::entries::claim_entries;
 use register::register::Register;
 
-// How many entries a claim has, counted by going from each to the next.
+// How many entries a claim has.
 fn entries_of_claim<R: Register>(register: &R, claim: u32) -> u32
     ensures { result ≡ count_of (R.Register.meaning register.now).entries claim }
 {
-    let mut count = 0;
-    let mut after = 0;
-    while let Some(found) = register.next_of_claim(claim, after) {
-        count += 1;
-        after = found.number;
-    }
-    count
+    claim_entries(register, claim, 0).count() as u32
 }
 
 // Puts one request to a register. What comes back depends on nothing but the register's meaning and the request.

@@ -1,28 +1,13 @@
-// How days, amounts, entries, requests and answers are written.
+// How amounts, entries, requests and answers are written.
 use crate::request::{Answer, Request};
-use register::entry::{Content, Entry};
+use register::entry::{Content, Entry, Terms};
 use register::fault::AddFault;
 use register::numbered::NumberedEntry;
 use std::fmt;
 use values::amount::Amount;
-use values::claim_days::ClaimDays;
-use values::day::Day;
+use wording::days::DaysInWords;
 
-// A day as year, month and day of the month: 2024-02-10.
-#[derive(Clone, Copy)]
-struct Dated(Day);
-
-impl fmt::Display for Dated {
-    fn fmt<W: fmt::Write>(&self, f: &mut fmt::Formatter<W>) -> fmt::Result {
-        let number = self.0.number();
-        let year = number / 10_000;
-        let month = number / 100 % 100;
-        let day = number % 100;
-        write!(f, "{year}-{month:02}-{day:02}")
-    }
-}
-
-// An amount in the currency of the book: -1200.00.
+// An amount without commas between its digits, unlike wording's: -1200.00.
 #[derive(Clone, Copy)]
 struct Money(Amount);
 
@@ -36,19 +21,15 @@ impl fmt::Display for Money {
     }
 }
 
-// The three claim days in words.
+// The terms of a movement in words.
 #[derive(Clone, Copy)]
-struct DaysInWords(ClaimDays);
+struct TermsInWords(Terms);
 
-impl fmt::Display for DaysInWords {
+impl fmt::Display for TermsInWords {
     fn fmt<W: fmt::Write>(&self, f: &mut fmt::Formatter<W>) -> fmt::Result {
-        let inception = Dated(self.0.inception);
-        let occurrence = Dated(self.0.occurrence);
-        let report = Dated(self.0.report);
-        write!(
-            f,
-            "insured from {inception}, loss on {occurrence}, reported on {report}"
-        )
+        let amount = Money(self.0.amount);
+        let effective = self.0.effective;
+        write!(f, "{amount} on {effective}")
     }
 }
 
@@ -58,38 +39,60 @@ struct InWords(Entry);
 
 impl fmt::Display for InWords {
     fn fmt<W: fmt::Write>(&self, f: &mut fmt::Formatter<W>) -> fmt::Result {
-        let booked = Dated(self.0.booked);
+        let booked = self.0.booked;
         let claim = self.0.claim;
         write!(f, "{booked}, claim {claim}: ")?;
         match self.0.content {
-            Content::Opening(opening) => {
-                let days = DaysInWords(opening.claim_days);
+            Content::Opening(claim_days) => {
+                let days = DaysInWords(claim_days);
                 write!(f, "opened, {days}")
             }
-            Content::Payment(payment) => {
-                let amount = Money(payment.amount);
-                let effective = Dated(payment.effective);
-                write!(f, "paid {amount} on {effective}")
+            Content::Payment(terms) => {
+                let terms = TermsInWords(terms);
+                write!(f, "paid {terms}")
             }
-            Content::ReserveChange(change) => {
-                let amount = Money(change.amount);
-                let effective = Dated(change.effective);
-                write!(f, "case reserve changed by {amount} on {effective}")
+            Content::ReserveChange(terms) => {
+                let terms = TermsInWords(terms);
+                write!(f, "case reserve changed by {terms}")
             }
             Content::Correction(correction) => {
                 let names = correction.names;
-                let amount = Money(correction.amount);
-                let effective = Dated(correction.effective);
-                write!(f, "entry {names} corrected to {amount} on {effective}")
+                let terms = TermsInWords(correction.terms);
+                write!(f, "entry {names} corrected to {terms}")
             }
             Content::Void(void) => {
                 let names = void.names;
                 write!(f, "entry {names} taken back")
             }
-            Content::Redating(redating) => {
-                let days = DaysInWords(redating.claim_days);
+            Content::Redating(claim_days) => {
+                let days = DaysInWords(claim_days);
                 write!(f, "new claim days, {days}")
             }
+        }
+    }
+}
+
+// An entry with its number, in words.
+#[derive(Clone, Copy)]
+struct NumberedInWords(NumberedEntry);
+
+impl fmt::Display for NumberedInWords {
+    fn fmt<W: fmt::Write>(&self, f: &mut fmt::Formatter<W>) -> fmt::Result {
+        let number = self.0.number;
+        let entry = InWords(self.0.entry);
+        write!(f, "entry {number}: {entry}")
+    }
+}
+
+// What was looked for, where it was found.
+#[derive(Clone, Copy)]
+struct Found<T>(Option<T>);
+
+impl<T: fmt::Display> fmt::Display for Found<T> {
+    fn fmt<W: fmt::Write>(&self, f: &mut fmt::Formatter<W>) -> fmt::Result {
+        match &self.0 {
+            Some(found) => found.fmt(f),
+            None => write!(f, "none"),
         }
     }
 }
@@ -115,69 +118,15 @@ impl fmt::Display for Request {
     }
 }
 
-// What came of adding an entry, in words.
-#[derive(Clone, Copy)]
-struct Booking(Result<u32, AddFault>);
-
-impl fmt::Display for Booking {
-    fn fmt<W: fmt::Write>(&self, f: &mut fmt::Formatter<W>) -> fmt::Result {
-        match self.0 {
-            Ok(number) => write!(f, "booked as entry {number}"),
-            Err(AddFault::NoSuchClaim) => write!(f, "refused: no such claim"),
-            Err(AddFault::Full) => write!(f, "refused: the register is full"),
-        }
-    }
-}
-
-// An entry that was looked for, in words.
-#[derive(Clone, Copy)]
-struct Found(Option<Entry>);
-
-impl fmt::Display for Found {
-    fn fmt<W: fmt::Write>(&self, f: &mut fmt::Formatter<W>) -> fmt::Result {
-        match self.0 {
-            Some(entry) => {
-                let entry = InWords(entry);
-                write!(f, "{entry}")
-            }
-            None => write!(f, "none"),
-        }
-    }
-}
-
-// An entry that was looked for, with its number, in words.
-#[derive(Clone, Copy)]
-struct FoundNumbered(Option<NumberedEntry>);
-
-impl fmt::Display for FoundNumbered {
-    fn fmt<W: fmt::Write>(&self, f: &mut fmt::Formatter<W>) -> fmt::Result {
-        match self.0 {
-            Some(found) => {
-                let number = found.number;
-                let entry = InWords(found.entry);
-                write!(f, "entry {number}: {entry}")
-            }
-            None => write!(f, "none"),
-        }
-    }
-}
-
 impl fmt::Display for Answer {
     fn fmt<W: fmt::Write>(&self, f: &mut fmt::Formatter<W>) -> fmt::Result {
         match *self {
-            Answer::Added(booking) => {
-                let booking = Booking(booking);
-                write!(f, "{booking}")
-            }
+            Answer::Added(Ok(number)) => write!(f, "booked as entry {number}"),
+            Answer::Added(Err(AddFault::NoSuchClaim)) => write!(f, "refused: no such claim"),
+            Answer::Added(Err(AddFault::Full)) => write!(f, "refused: the register is full"),
             Answer::Count(count) => write!(f, "{count}"),
-            Answer::Entry(found) => {
-                let found = Found(found);
-                write!(f, "{found}")
-            }
-            Answer::Numbered(found) => {
-                let found = FoundNumbered(found);
-                write!(f, "{found}")
-            }
+            Answer::Entry(found) => Found(found.map(InWords)).fmt(f),
+            Answer::Numbered(found) => Found(found.map(NumberedInWords)).fmt(f),
         }
     }
 }

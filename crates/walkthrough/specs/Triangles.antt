@@ -1,6 +1,5 @@
 -- What is added to the cells of a triangle, and read from them. Assumes nothing.
-use Rattle.std.specs.Prelude.{ℕ, cond, List, map, length, take, drop, ℤ, pos, ◌+ℤ◌, Some, None, fold, Option, nat_lt, slice_index_or, slice_set}
-use Rattle.std.specs.List.{range_with_len}
+use Rattle.std.specs.Prelude.{ℕ, cond, List, take, drop, ℤ, pos, ◌+ℤ◌, Some, None, Option, nat_lt, slice_index_or, slice_set}
 use Rattle.std.specs.Int.{int_wrap, w64}
 use Rattle.walkthrough.specs.Shapes.{row_start}
 use Rattle.walkthrough.specs.declared.shape.Shape.{Shape}
@@ -12,11 +11,3 @@ added_at cells index cents = slice_set cells index (int_wrap w64 (slice_index_or
 -- the cells of a row, none past the last row
 abbrev pub row_in : Shape → List ℤ → ℕ → Option (List ℤ)
 row_in s cells row = cond (nat_lt row s.rows) (Some (take s.columns (drop (row_start s row) cells))) None
-
--- the sum of the first n cells; sums wrap modulo 2^64
-abbrev pub running_sum : List ℤ → ℕ → ℤ
-running_sum cells n = int_wrap w64 (fold ◌+ℤ◌ (pos 0) (take n cells))
-
--- the running sums along a row, each of the cells up to its own
-abbrev pub running_sums : List ℤ → List ℤ
-running_sums cells = map (running_sum cells) (range_with_len 1 (length cells))

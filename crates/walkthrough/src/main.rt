@@ -7,22 +7,33 @@ mod payment;
 mod shape;
 mod steps;
 mod table;
-mod text;
 mod triangle;
 
 use payment::{Line, read_line};
 use shape::Shape;
 use std::io;
 use std::io::{BufRead, BufReader};
+use steps::Outcome;
 use triangle::Triangle;
 use values::cohort::LabelledCohort;
 
 // How many payments were added and refused, and how many lines were not read.
-#[derive(Clone, Copy)]
+#[derive(Clone, Copy, Default)]
 struct Tally {
     added: u64,
     refused: u64,
     unread: u64,
+}
+
+impl Tally {
+    // One line more.
+    fn count(&mut self, outcome: Outcome) {
+        match outcome {
+            Outcome::Added => self.added = self.added.saturating_add(1),
+            Outcome::Refused => self.refused = self.refused.saturating_add(1),
+            Outcome::Unread => self.unread = self.unread.saturating_add(1),
+        }
+    }
 }
 
 // Reads the input to its end, adds each payment at its place, and counts what became of the lines.
@@ -31,31 +42,15 @@ fn read_payments<C: LabelledCohort>(
     cohort: &C,
     triangle: &mut Triangle,
 ) -> io::Result<Tally> {
-    let mut tally = Tally {
-        added: 0,
-        refused: 0,
-        unread: 0,
-    };
-    let mut number = 0u64;
-    for line in BufReader::new(rt.alloc(), rt.stdin())?.split(rt.alloc(), b'\n') {
-        number = number.saturating_add(1);
-        match read_line(line?.as_slice()) {
-            Line::Skipped => {}
-            Line::Unread => {
-                println!(rt;
-                    "\nLine {number} is not read: it is not five whole numbers, of which only the last may be negative"
-                )?;
-                tally.unread = tally.unread.saturating_add(1);
-            }
-            Line::Payment(numbers) => {
-                steps::show_numbers(rt, number, numbers)?;
-                if steps::take(rt, cohort, triangle, numbers)? {
-                    tally.added = tally.added.saturating_add(1);
-                } else {
-                    tally.refused = tally.refused.saturating_add(1);
-                }
-            }
-        }
+    let mut tally = Tally::default();
+    let lines = BufReader::new(rt.alloc(), rt.stdin())?.split(rt.alloc(), b'\n');
+    for (number, line) in (1u64..).zip(lines) {
+        let outcome = match read_line(line?.as_slice()) {
+            Line::Skipped => continue,
+            Line::Unread => steps::pass_over(rt, number)?,
+            Line::Payment(numbers) => steps::take(rt, cohort, triangle, number, numbers)?,
+        };
+        tally.count(outcome);
     }
     Ok(tally)
 }

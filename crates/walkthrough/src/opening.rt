@@ -48,17 +48,15 @@ pub fn show_purpose(rt: &HostRuntime) -> io::Result<()> {
 
 // Makes a cohort with periods of this many months, and says what came of it.
 fn make_cohort(rt: &HostRuntime, months: u32) -> io::Result<Option<PeriodCohort>> {
-    match PeriodCohort::new(Anchor::Occurrence, months, 2020, 1, ROWS, COLUMNS) {
-        Ok(cohort) => {
-            println!(rt; "  periods of {months} months: made")?;
-            Ok(Some(cohort))
-        }
+    let made = PeriodCohort::new(Anchor::Occurrence, months, 2020, 1, ROWS, COLUMNS);
+    match made {
+        Ok(_) => println!(rt; "  periods of {months} months: made")?,
         Err(fault) => {
             let number = fault.number();
             println!(rt; "  periods of {months} months: refused with {number} ({fault:?})")?;
-            Ok(None)
         }
     }
+    Ok(made.ok())
 }
 
 // Asks for a cohort that is refused, and then for the one that the triangle is drawn with.

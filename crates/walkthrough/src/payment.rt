@@ -2,7 +2,7 @@
 ghost use Rattle.std.specs.Prelude.{◌≡◌};
 ghost use Rattle.walkthrough.specs.Payments.{payment_of};
 
-use std::str::SplitWhitespace;
+use std::str::{FromStr, SplitWhitespace};
 use values::amount::Amount;
 use values::claim_days::ClaimDays;
 use values::day::Day;
@@ -18,6 +18,10 @@ pub struct Numbers {
     pub cents: i64,
 }
 
+// A text that is not five whole numbers, of which only the last may have a sign.
+#[derive(Clone, Copy, Debug)]
+pub struct NotNumbers;
+
 // An amount paid on a day, on a claim with these claim days.
 #[derive(Clone, Copy)]
 pub struct Payment {
@@ -26,11 +30,13 @@ pub struct Payment {
     pub amount: Amount,
 }
 
-impl Payment {
-    // The payment with these numbers, or the fault of the first that is no day or no amount.
-    pub fn new(numbers: Numbers) -> Result<Payment, ValueFault>
-        ensures { result ≡ payment_of numbers }
-    {
+// The payment with these numbers, or the fault of the first that is no day or no amount.
+impl TryFrom<Numbers> for Payment {
+    type Error = ValueFault;
+
+    ghost try_from_gives = { λ numbers made. made ≡ payment_of numbers };
+
+    fn try_from(numbers: Numbers) -> Result<Payment, ValueFault> {
         let claim_days = ClaimDays::new(numbers.inception, numbers.occurrence, numbers.report)?;
         let day = Day::new(numbers.payment)?;
         let amount = Amount::new(numbers.cents)?;
@@ -39,6 +45,35 @@ impl Payment {
             day,
             amount,
         })
+    }
+}
+
+// The next word as a number.
+fn next_number<T: FromStr>(words: &mut SplitWhitespace) -> Result<T, NotNumbers>
+where
+    T::Err: Drop,
+{
+    let word = words.next().ok_or(NotNumbers)?;
+    word.parse::<T>().map_err(|_| NotNumbers)
+}
+
+// Five whole numbers parted by blanks, of which only the last may have a sign.
+impl FromStr for Numbers {
+    type Err = NotNumbers;
+
+    fn from_str(text: &str) -> Result<Numbers, NotNumbers> {
+        let mut words = text.split_whitespace();
+        let numbers = Numbers {
+            inception: next_number(&mut words)?,
+            occurrence: next_number(&mut words)?,
+            report: next_number(&mut words)?,
+            payment: next_number(&mut words)?,
+            cents: next_number(&mut words)?,
+        };
+        match words.next() {
+            Some(_) => Err(NotNumbers),
+            None => Ok(numbers),
+        }
     }
 }
 
@@ -52,31 +87,6 @@ pub enum Line {
     Payment(Numbers),
 }
 
-// The next word as a number without a sign.
-fn next_number(words: &mut SplitWhitespace) -> Option<u64> {
-    words.next()?.parse::<u64>().ok()
-}
-
-// Five whole numbers parted by blanks, of which only the last may have a sign.
-fn read_numbers(text: &str) -> Option<Numbers> {
-    let mut words = text.split_whitespace();
-    let inception = next_number(&mut words)?;
-    let occurrence = next_number(&mut words)?;
-    let report = next_number(&mut words)?;
-    let payment = next_number(&mut words)?;
-    let cents = words.next()?.parse::<i64>().ok()?;
-    if words.next().is_some() {
-        return None;
-    }
-    Some(Numbers {
-        inception,
-        occurrence,
-        report,
-        payment,
-        cents,
-    })
-}
-
 // What a line holds, given without the byte that ends it.
 pub fn read_line(bytes: &[u8]) -> Line {
     let Ok(text) = std::str::from_utf8(bytes) else {
@@ -86,8 +96,5 @@ pub fn read_line(bytes: &[u8]) -> Line {
     if text.is_empty() || text.starts_with('#') {
         return Line::Skipped;
     }
-    match read_numbers(text) {
-        Some(numbers) => Line::Payment(numbers),
-        None => Line::Unread,
-    }
+    text.parse::<Numbers>().map_or(Line::Unread, Line::Payment)
 }

@@ -1,25 +1,30 @@
 // What the program says of each line of the input.
 use crate::booking::{Booked, book};
 use crate::payment::{Numbers, Payment};
-use crate::text::{Dated, money};
 use crate::triangle::Triangle;
 use std::io;
 use values::amount::Amount;
 use values::cohort::LabelledCohort;
 use values::day::Day;
 use values::place::Place;
+use wording::money::Money;
+
+// What became of a line.
+#[derive(Clone, Copy)]
+pub enum Outcome {
+    Added,
+    Refused,
+    Unread,
+}
 
 // Says what a number becomes as a day.
 fn show_day(rt: &HostRuntime, name: &str, number: u64) -> io::Result<()> {
     print!(rt; "  {name:<10}  {number:>13}  ")?;
     match Day::new(number) {
-        Ok(day) => {
-            let day = Dated(day);
-            println!(rt; "the day {day}")
-        }
+        Ok(day) => println!(rt; "the day {day}"),
         Err(fault) => {
             let number = fault.number();
-            println!(rt; "refused with {number}: no day of the calendar from 1900 to 2199")
+            println!(rt; "refused with {number}: {fault}")
         }
     }
 }
@@ -29,7 +34,7 @@ fn show_amount(rt: &HostRuntime, cents: i64) -> io::Result<()> {
     print!(rt; "  amount      {cents:>13}  ")?;
     match Amount::new(cents) {
         Ok(amount) => {
-            let sum = money(rt.alloc(), amount.cents())?;
+            let sum = Money(amount.cents());
             println!(rt; "the amount {sum}")
         }
         Err(fault) => {
@@ -42,7 +47,7 @@ fn show_amount(rt: &HostRuntime, cents: i64) -> io::Result<()> {
 }
 
 // Says what each number of a payment becomes.
-pub fn show_numbers(rt: &HostRuntime, line: u64, numbers: Numbers) -> io::Result<()> {
+fn show_numbers(rt: &HostRuntime, line: u64, numbers: Numbers) -> io::Result<()> {
     println!(rt; "\nLine {line}")?;
     show_day(rt, "inception", numbers.inception)?;
     show_day(rt, "occurrence", numbers.occurrence)?;
@@ -53,7 +58,7 @@ pub fn show_numbers(rt: &HostRuntime, line: u64, numbers: Numbers) -> io::Result
 
 // Says where a payment went.
 fn show_booked<C: LabelledCohort>(rt: &HostRuntime, cohort: &C, booked: Booked) -> io::Result<()> {
-    let sum = money(rt.alloc(), booked.sum)?;
+    let sum = Money(booked.sum);
     match booked.place {
         Place::Cell { row, column } => {
             print!(rt; "  -> row {row}")?;
@@ -66,22 +71,32 @@ fn show_booked<C: LabelledCohort>(rt: &HostRuntime, cohort: &C, booked: Booked) 
     }
 }
 
-// Adds the payment with these numbers, unless one of them is refused, and says what came of it. True where it was added.
+// Says what the numbers of a line become, adds the payment with them unless one is refused, and says what came of it.
 pub fn take<C: LabelledCohort>(
     rt: &HostRuntime,
     cohort: &C,
     triangle: &mut Triangle,
+    line: u64,
     numbers: Numbers,
-) -> io::Result<bool> {
-    match Payment::new(numbers) {
+) -> io::Result<Outcome> {
+    show_numbers(rt, line, numbers)?;
+    match Payment::try_from(numbers) {
         Ok(payment) => {
             show_booked(rt, cohort, book(triangle, cohort, payment))?;
-            Ok(true)
+            Ok(Outcome::Added)
         }
         Err(fault) => {
             let number = fault.number();
             println!(rt; "  -> the payment is refused with {number}, and nothing is added")?;
-            Ok(false)
+            Ok(Outcome::Refused)
         }
     }
+}
+
+// Says that a line is not read.
+pub fn pass_over(rt: &HostRuntime, line: u64) -> io::Result<Outcome> {
+    println!(rt;
+        "\nLine {line} is not read: it is not five whole numbers, of which only the last may be negative"
+    )?;
+    Ok(Outcome::Unread)
 }

@@ -1,8 +1,9 @@
 // The finished triangle as a table.
-use crate::text::money;
-use crate::triangle::{Triangle, running_sums};
+use crate::triangle::Triangle;
+use cube::figures::running_sums;
 use std::io;
 use values::cohort::LabelledCohort;
+use wording::money::Money;
 
 // Prints what the rows below it show, and the number of each column.
 fn show_heading<C: LabelledCohort>(rt: &HostRuntime, cohort: &C, title: &str) -> io::Result<()> {
@@ -19,7 +20,7 @@ fn show_heading<C: LabelledCohort>(rt: &HostRuntime, cohort: &C, title: &str) ->
 fn show_row(rt: &HostRuntime, label: u32, sums: &[i64]) -> io::Result<()> {
     print!(rt; "{label}")?;
     for sum in sums {
-        let sum = money(rt.alloc(), *sum)?;
+        let sum = Money(*sum);
         print!(rt; "  {sum:>16}")?;
     }
     rt.print("\n")
@@ -47,6 +48,6 @@ pub fn show_triangle<C: LabelledCohort>(
             show_row(rt, label, running_sums(rt.alloc(), cells)?.as_slice())?;
         }
     }
-    let beyond = money(rt.alloc(), triangle.beyond())?;
+    let beyond = Money(triangle.beyond());
     println!(rt; "beyond  {beyond:>16}")
 }

@@ -2,7 +2,7 @@
 ghost use Rattle.std.specs.Prelude.{◌≡◌, replicate, pos, IfOk, slice_index_or};
 ghost use Rattle.std.specs.Option.{option_map};
 ghost use Rattle.walkthrough.specs.Shapes.{cell_count, cell_index};
-ghost use Rattle.walkthrough.specs.Triangles.{added_at, row_in, running_sum, running_sums};
+ghost use Rattle.walkthrough.specs.Triangles.{added_at, row_in};
 
 use super::Triangle;
 use crate::shape::Shape;
@@ -48,27 +48,4 @@ impl Triangle {
     {
         self.cells[self.shape.cell_index(Place::Beyond)]
     }
-}
-
-// The sum of the first `n` cells of a row. Sums wrap modulo 2^64.
-fn running_sum(row: &[i64], n: usize) -> i64
-    ensures { result ≡ running_sum row.now n }
-{
-    let first = &row[0..n.min(row.len())];
-    let mut sum = 0i64;
-    for cell in first {
-        sum = sum.wrapping_add(*cell);
-    }
-    sum
-}
-
-// The running sums along a row, each of the cells up to its own.
-pub fn running_sums(heap: Global, row: &[i64]) -> Result<Vec<i64>, AllocError>
-    ensures { IfOk result (λ v. v.items ≡ running_sums row.now) }
-{
-    let mut sums = Vec::new(heap);
-    for column in 0..row.len() {
-        sums.push(running_sum(row, column + 1))?;
-    }
-    Ok(sums)
 }

@@ -1,25 +1,31 @@
-use Rattle.std.proofs.Common.{arith}
-use Rattle.side_by_side.proofs.Counting.{Counted, one_more, no_more}
+use Rattle.std.proofs.Common.{◌≡◌, length, ap, ◌∙◌, inl, arith}
+use Rattle.std.proofs.lemmas.Iterator.Consumers.{YieldsList-from_first, count_from_yields_List}
+use Rattle.register.specs.Iterators.{claim_entries_left}
+use Rattle.side_by_side.specs.Requests.{count_of}
+use Rattle.side_by_side.proofs.Counting.{count_of_le, length-claim_entries}
 use Rattle.side_by_side.proofs.serve.entries_of_claim.Given.{Over}
 use Rattle.side_by_side.proofs.serve.entries_of_claim.Goals as goal
 
--- an entry was found
-next : (g : Over) (c : goal.In-Some g) → Counted (g.R.Register.meaning c.args.register.now).entries c.args.claim c.loop-found.after c.in-Some.found
-next g c = one_more (g.R.Register.meaning c.args.register.now).entries c.args.claim c.loop-found.after c.in-Some.found c.in-Some.ensures
+-- all entries of the claim are counted
+counted : (g : Over) (c : goal.After-count g) → c.count.result ≡ count_of (g.R.Register.meaning c.args.register.now).entries c.args.claim
+counted g c =
+    let road = YieldsList-from_first (λ x. x) (claim_entries_left g.R.Register.meaning) _ c.claim_entries.ensures.left in
+    count_from_yields_List c.claim_entries.result c.count.result c.count.ensures.ran road
+    ∙ length-claim_entries (g.R.Register.meaning c.args.register.now).entries c.args.claim
 
-pub overflow_add-count : goal.overflow_add-count
-overflow_add-count g c =
-    let n = next g c in
-    let s = g.R.Register.sound c.args.register.now in
-    omega arith
+pub count-requires-clause-fits : goal.count-requires-clause-fits
+count-requires-clause-fits g c =
+    let es = (g.R.Register.meaning c.args.register.now).entries in
+    let sound = g.R.Register.sound c.args.register.now in
+    let left = ap length c.claim_entries.ensures.left ∙ length-claim_entries es c.args.claim in
+    let few = count_of_le es c.args.claim in
+    inl (omega arith)
 
-pub loop-found-smaller : goal.loop-found-smaller
-loop-found-smaller g c = let n = next g c in omega arith
-
-pub loop-found-preserved : goal.loop-found-preserved
-loop-found-preserved g c = let n = next g c in (omega arith, omega arith)
+pub overflow_cast-result : goal.overflow_cast-result
+overflow_cast-result g c =
+    let es = (g.R.Register.meaning c.args.register.now).entries in
+    let sound = g.R.Register.sound c.args.register.now in
+    omega (arith, counted g c, count_of_le es c.args.claim)
 
 pub returns : goal.returns
-returns g c =
-    let n = no_more (g.R.Register.meaning c.args.register.now).entries c.args.claim c.loop-found.after c.in_default.ensures in
-    omega arith
+returns g c = counted g c

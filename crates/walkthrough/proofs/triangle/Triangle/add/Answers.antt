@@ -1,12 +1,11 @@
-use Rattle.std.proofs.Common.{◌<◌, length, pos, ◌+ℤ◌, vec_items, w64, rules}
-use Rattle.std.proofs.lemmas.List.{get_or_read, get_or-set_same}
+use Rattle.std.proofs.Common.{◌<◌, length, pos, vec_items, w64, rules}
+use Rattle.std.proofs.lemmas.List.{get_or_read}
 use Rattle.std.proofs.lemmas.Int.{wrapping_add_is}
-use Rattle.std.specs.Int.{int_wrap}
 use Rattle.walkthrough.proofs.triangle.Triangle.add.Goals as goal
 
--- the sum is that of the cell read and the amount; it is then what the cell holds
-pub returns : goal.returns
-returns c =
+-- the sum is that of the cell read and the amount
+pub returns-clause-cells : goal.returns-clause-cells
+returns-clause-cells c =
     let index = c.cell_index-index.result in
     let cells = vec_items c.args.self.now.cells in
     let inside : index < length cells = search rules in
@@ -14,5 +13,4 @@ returns c =
     let summed = wrapping_add_is w64 c.index.result.now c.cents.result (search rules) (search rules) in
     let at = c.cell_index-index.ensures.value in
     let cents = c.cents.ensures in
-    let holds = get_or-set_same cells index (int_wrap w64 (c.index.result.now +ℤ c.cents.result)) (pos 0) inside in
-    record { shape = search rules; cells = cc; sum = cc }
+    cc

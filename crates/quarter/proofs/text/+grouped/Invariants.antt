@@ -1,4 +1,0 @@
-use Rattle.quarter.proofs.text.+grouped.Given as goal
-
-abbrev pub decreases-grouped : goal.decreases-grouped
-decreases-grouped l = l.n
