@@ -14,24 +14,17 @@ mod tally;
 mod text;
 mod turn;
 
-use anyhow::anyhow;
 use book::large_book;
 use cube::sheet::sheet_length;
 use memory::flat::FlatMemory;
 use memory::paged::PagedMemory;
 use plan::{Plan, Task};
-use register::entry::Entry;
 use register::limits::{MOST_CLAIMS, MOST_ENTRIES};
 use report::show_report;
 use request::Request;
 use samples::leftover::leftover;
 use session::{Report, book_and_query, book_only, quarters, write_book};
 use std::alloc::Global;
-
-// What lies in memory before a register is made over it.
-fn old_entry() -> anyhow::Result<Entry> {
-    leftover().map_err(|_| anyhow!("no such day"))
-}
 
 // Runs the flat log. It and the next stay two functions: a register borrows its memory, and Rattle has no associated type that
 // could say for both kinds of memory what is borrowed.
@@ -41,7 +34,7 @@ fn run_flat(
     sheet: &mut [i64],
     plan: Plan,
 ) -> anyhow::Result<Report> {
-    let mut memory = FlatMemory::filled(heap, old_entry()?, MOST_ENTRIES, MOST_CLAIMS)?;
+    let mut memory = FlatMemory::filled(heap, leftover()?, MOST_ENTRIES, MOST_CLAIMS)?;
     for _ in 1..plan.bookings {
         book_only(memory.register(), sheet, requests)?;
     }
@@ -55,7 +48,7 @@ fn run_paged(
     sheet: &mut [i64],
     plan: Plan,
 ) -> anyhow::Result<Report> {
-    let mut memory = PagedMemory::filled(heap, old_entry()?, MOST_ENTRIES, MOST_CLAIMS)?;
+    let mut memory = PagedMemory::filled(heap, leftover()?, MOST_ENTRIES, MOST_CLAIMS)?;
     for _ in 1..plan.bookings {
         book_only(memory.register(), sheet, requests)?;
     }
@@ -82,14 +75,14 @@ fn run_both(rt: &HostRuntime, requests: &[Request], plan: Plan) -> anyhow::Resul
 
 // Writes the book out, with the answers of a cube over a flat log.
 fn write_out(rt: &HostRuntime, requests: &[Request], sheet: &mut [i64]) -> anyhow::Result<()> {
-    let mut memory = FlatMemory::filled(rt.alloc(), old_entry()?, MOST_ENTRIES, MOST_CLAIMS)?;
+    let mut memory = FlatMemory::filled(rt.alloc(), leftover()?, MOST_ENTRIES, MOST_CLAIMS)?;
     write_book(rt, memory.register(), sheet, requests)
 }
 
 fn run(rt: &HostRuntime) -> anyhow::Result<()> {
     let heap = rt.alloc();
     let plan = Plan::from_arguments(rt)?;
-    let book = large_book(heap, plan.entries, plan.claims)?;
+    let book = large_book(heap, plan.size)?;
     let requests = book.as_slice();
     let mut cells = vec![in heap; 0i64; sheet_length(&quarters()?)]?;
     let sheet = cells.as_mut_slice();

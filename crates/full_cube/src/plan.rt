@@ -2,6 +2,7 @@
 use anyhow::Context;
 use register::limits::{MOST_CLAIMS, MOST_ENTRIES};
 use samples::arguments::{number_up_to, setting};
+use samples::size::BookSize;
 use std::env::{self, Args};
 use std::iter::Skip;
 use std::str::FromStr;
@@ -37,8 +38,7 @@ impl FromStr for Task {
 #[derive(Clone, Copy)]
 pub struct Plan {
     pub task: Task,
-    pub entries: u32,
-    pub claims: u32,
+    pub size: BookSize,
     pub bookings: u32,
     pub queries: u32,
 }
@@ -48,8 +48,10 @@ impl Plan {
     fn read(mut words: Skip<Args>) -> Option<Plan> {
         let plan = Plan {
             task: setting(words.next(), Task::Both)?,
-            entries: number_up_to(MOST_ENTRIES, words.next(), 30_000)?,
-            claims: number_up_to(MOST_CLAIMS, words.next(), 4_000)?,
+            size: BookSize {
+                entries: number_up_to(MOST_ENTRIES, words.next(), 30_000)?,
+                claims: number_up_to(MOST_CLAIMS, words.next(), 4_000)?,
+            },
             bookings: setting(words.next(), 1)?,
             queries: setting(words.next(), 1)?,
         };

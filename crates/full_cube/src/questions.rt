@@ -1,10 +1,11 @@
 // What the book is asked once it is booked.
 use crate::figures::{SheetFigures, sheet_figures};
 use crate::session::Session;
-use anyhow::anyhow;
+use anyhow::Context;
 use register::register::Register;
 use std::alloc::Global;
 use values::day::Day;
+use values::fault::ValueFault;
 
 // A question for the triangles of the entries known on a day, valued at a day.
 #[derive(Clone, Copy, PartialEq)]
@@ -35,11 +36,6 @@ const ASKED: [(u64, u64); 6] = [
     (LAST_DAY, KEPT_DAY),
 ];
 
-// The day with a number.
-fn day_numbered(number: u64) -> anyhow::Result<Day> {
-    Day::new(number).map_err(|_| anyhow!("there is no such day"))
-}
-
 // The two days of which an answer is compared with the live sheet.
 #[derive(Clone, Copy, PartialEq)]
 pub struct ComparedDays {
@@ -48,10 +44,10 @@ pub struct ComparedDays {
 }
 
 impl ComparedDays {
-    pub fn new() -> anyhow::Result<ComparedDays> {
+    pub fn new() -> Result<ComparedDays, ValueFault> {
         Ok(ComparedDays {
-            kept: day_numbered(KEPT_DAY)?,
-            last: day_numbered(LAST_DAY)?,
+            kept: Day::new(KEPT_DAY)?,
+            last: Day::new(LAST_DAY)?,
         })
     }
 }
@@ -61,7 +57,7 @@ impl<R: Register> Session<'_, R> {
     pub fn ask(&self, heap: Global, question: Question, answer: &mut [i64]) -> anyhow::Result<()> {
         self.cube
             .query(heap, question.known, question.valued, answer)
-            .map_err(|_| anyhow!("a query is refused"))
+            .context("a query is refused")
     }
 
     // Puts every question to the cube.
@@ -69,8 +65,8 @@ impl<R: Register> Session<'_, R> {
         let mut answers = Vec::new(heap);
         for (known, valued) in ASKED {
             let question = Question {
-                known: day_numbered(known)?,
-                valued: day_numbered(valued)?,
+                known: Day::new(known)?,
+                valued: Day::new(valued)?,
             };
             self.ask(heap, question, answer)?;
             answers.push(Answered {

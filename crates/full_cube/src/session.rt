@@ -5,7 +5,7 @@ use crate::questions::{Answered, ComparedDays, Question};
 use crate::request::Request;
 use crate::tally::Tally;
 use crate::text::Line;
-use anyhow::anyhow;
+use anyhow::Context;
 use cube::cube::Cube;
 use register::register::Register;
 use std::alloc::{AllocError, Global};
@@ -38,17 +38,14 @@ pub struct Report {
 
 // Quarters by occurrence: ten years from January 2015, each followed over forty quarters.
 pub fn quarters() -> anyhow::Result<PeriodCohort> {
-    PeriodCohort::new(Anchor::Occurrence, 3, 2015, 1, 40, 40).map_err(|_| anyhow!(
-        "there is no such cohort"
-    ))
+    PeriodCohort::new(Anchor::Occurrence, 3, 2015, 1, 40, 40).context("there is no such cohort")
 }
 
 impl<'a, R: Register + Drop> Session<'a, R> {
     // A cube over an empty register is started.
     fn start(register: R, sheet: &'a mut [i64]) -> anyhow::Result<Session<'a, R>> {
         let mut cube = Cube::new(register, quarters()?);
-        cube.start(sheet, MARK)
-            .map_err(|_| anyhow!("the cube does not start"))?;
+        cube.start(sheet, MARK).context("the cube does not start")?;
         Ok(Session {
             cube,
             sheet,

@@ -36,8 +36,7 @@ impl Tally {
             },
             Action::Correct(_) => count(&mut self.corrections),
             Action::Abandon(_) => count(&mut self.dropped),
-            Action::Void(_) => count(&mut self.voids),
-            Action::VoidDrafted(_) => count(&mut self.voids),
+            Action::Void(_) | Action::VoidDrafted(_) => count(&mut self.voids),
             Action::Redate(_) => count(&mut self.redatings),
         }
     }

@@ -1,12 +1,11 @@
 // A large book of claims, the same in every run.
-ghost use Rattle.std.specs.Prelude.{◌<◌, ◌^◌};
-
-use anyhow::{Context, anyhow};
+use anyhow::Context;
 use register::entry::{Content, Correction, Entry, Terms, Void};
+use samples::busiest::Busiest;
 use samples::happening::Happening;
 use samples::random::Random;
 use samples::samples::Samples;
-use samples::spread::come_by;
+use samples::size::BookSize;
 use std::alloc::Global;
 use values::day::Day;
 use values::fault::ValueFault;
@@ -20,6 +19,13 @@ const START: Samples = Samples {
     first_year: 2015,
     report_delay: 100,
 };
+
+// A claim that was opened: its number, and that of its last movement that stands.
+#[derive(Clone, Copy)]
+struct Claim {
+    number: u32,
+    standing: Option<u32>,
+}
 
 // An entry that is to be made: its number and the day on which it is booked, which is also the count of a day.
 #[derive(Clone, Copy)]
@@ -68,56 +74,36 @@ fn change(
     Ok(content)
 }
 
-// One of the claims that were opened, as an index: every second time one of the first tenth, so that some claims have
-// many entries.
-fn claim_index(random: &mut Random, opened: usize) -> u32
-    ensures { result < 2 ^ 31 }
-{
-    let among = if random.below(2) == 0 {
-        opened
-    } else {
-        opened / 10
-    };
-    random.below(among as u64) as u32
-}
-
-// What becomes of a number that is no value.
-fn no_value(_: ValueFault) -> anyhow::Error {
-    anyhow!("the book has a number that is no day or no amount")
-}
-
-// So many entries over so many claims, in the order of booking. The claims are opened one by one, evenly over the book.
-pub fn large_book(heap: Global, entries: u32, claims: u32) -> anyhow::Result<Vec<Entry>> {
+// A book of a size, in the order of booking. The claims are opened one by one, evenly over the book.
+pub fn large_book(heap: Global, size: BookSize) -> anyhow::Result<Vec<Entry>> {
     let mut samples = START;
-    // the number of the last movement that stands, of each claim that was opened
-    let mut standing: Vec<Option<u32>> = Vec::new(heap);
+    let mut claims: Vec<Claim> = Vec::new(heap);
     let mut book = Vec::new(heap);
-    for index in 0..entries {
-        let count = come_by(index, entries, DAYS);
-        let booked = samples.day(count).map_err(no_value)?;
-        let opened = standing.len();
-        let (claim, content) = if opened < claims as usize
-            && opened as u64 <= come_by(index, entries, claims)
-        {
-            standing.push(None)?;
-            let claim_days = samples.claim_days(count).map_err(no_value)?;
-            (opened as u32, Content::Opening(claim_days))
+    for index in 0..size.entries {
+        let count = size.come_by(index, DAYS);
+        let booked = samples.day(count)?;
+        let opened = claims.last().map_or(0, |last| last.number);
+        let (claim, content) = if size.opens_claim(index, opened) {
+            let number = opened + 1;
+            let standing = None;
+            claims.push(Claim { number, standing })?;
+            (number, Content::Opening(samples.claim_days(count)?))
         } else {
-            let claim = claim_index(&mut samples.random, opened);
-            let standing = standing
-                .get_mut(claim as usize)
-                .context("a book has claims")?;
+            let place = samples.claim_index(opened, Busiest::First) as usize;
+            let claim = claims.get_mut(place).context("a book has claims")?;
             let booking = Booking {
                 number: index + 1,
                 count,
                 booked,
             };
-            let content = change(&mut samples, standing, booking).map_err(no_value)?;
-            (claim, content)
+            (
+                claim.number,
+                change(&mut samples, &mut claim.standing, booking)?,
+            )
         };
         book.push(Entry {
             booked,
-            claim: claim + 1,
+            claim,
             content,
         })?;
     }

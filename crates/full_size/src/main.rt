@@ -7,7 +7,6 @@ mod reading;
 mod report;
 mod sums;
 
-use anyhow::anyhow;
 use book::large_book;
 use memory::flat::FlatMemory;
 use memory::paged::PagedMemory;
@@ -19,15 +18,10 @@ use report::{Report, run_on, show_report};
 use samples::leftover::leftover;
 use std::alloc::Global;
 
-// What lies in memory before a register is made over it.
-fn old_entry() -> anyhow::Result<Entry> {
-    leftover().map_err(|_| anyhow!("no such day"))
-}
-
 // Runs the flat log. It and the next stay two functions: a register borrows its memory, and Rattle has no associated type that
 // could say for both kinds of memory what is borrowed.
 fn run_flat(heap: Global, book: &[Entry], plan: Plan) -> anyhow::Result<Report> {
-    let mut memory = FlatMemory::filled(heap, old_entry()?, MOST_ENTRIES, MOST_CLAIMS)?;
+    let mut memory = FlatMemory::filled(heap, leftover()?, MOST_ENTRIES, MOST_CLAIMS)?;
     for _ in 1..plan.bookings {
         let _ = book_all(&mut memory.register(), book);
     }
@@ -36,7 +30,7 @@ fn run_flat(heap: Global, book: &[Entry], plan: Plan) -> anyhow::Result<Report> 
 
 // Runs the paged register.
 fn run_paged(heap: Global, book: &[Entry], plan: Plan) -> anyhow::Result<Report> {
-    let mut memory = PagedMemory::filled(heap, old_entry()?, MOST_ENTRIES, MOST_CLAIMS)?;
+    let mut memory = PagedMemory::filled(heap, leftover()?, MOST_ENTRIES, MOST_CLAIMS)?;
     for _ in 1..plan.bookings {
         let _ = book_all(&mut memory.register(), book);
     }
@@ -59,12 +53,12 @@ fn run_both(rt: &HostRuntime, book: &[Entry], plan: Plan) -> anyhow::Result<()> 
 
 fn run(rt: &HostRuntime) -> anyhow::Result<()> {
     let plan = Plan::from_arguments(rt)?;
-    let entries = large_book(rt.alloc(), plan.entries, plan.claims)?;
+    let entries = large_book(rt.alloc(), plan.size)?;
     let book = entries.as_slice();
     println!(rt;
         "A book of {} entries over {} claims.",
         book.len(),
-        plan.claims
+        plan.size.claims
     )?;
     match plan.kind {
         Kind::Flat => show_report(rt, "flat log", run_flat(rt.alloc(), book, plan)?),

@@ -2,6 +2,7 @@
 use anyhow::Context;
 use register::limits::{MOST_CLAIMS, MOST_ENTRIES};
 use samples::arguments::{number_up_to, setting};
+use samples::size::BookSize;
 use std::env::{self, Args};
 use std::iter::Skip;
 use std::str::FromStr;
@@ -35,8 +36,7 @@ impl FromStr for Kind {
 #[derive(Clone, Copy)]
 pub struct Plan {
     pub kind: Kind,
-    pub entries: u32,
-    pub claims: u32,
+    pub size: BookSize,
     pub walks: u32,
     pub reads: u32,
     pub bookings: u32,
@@ -47,8 +47,10 @@ impl Plan {
     fn read(mut words: Skip<Args>) -> Option<Plan> {
         let plan = Plan {
             kind: setting(words.next(), Kind::Both)?,
-            entries: number_up_to(MOST_ENTRIES, words.next(), 30_000)?,
-            claims: number_up_to(MOST_CLAIMS, words.next(), 4_000)?,
+            size: BookSize {
+                entries: number_up_to(MOST_ENTRIES, words.next(), 30_000)?,
+                claims: number_up_to(MOST_CLAIMS, words.next(), 4_000)?,
+            },
             walks: setting(words.next(), 1)?,
             reads: setting(words.next(), 1)?,
             bookings: setting(words.next(), 1)?,

@@ -23,7 +23,7 @@ pub fn run_on<R: Register>(register: &mut R, book: &[Entry], plan: Plan) -> Repo
     let accepted = book_all(register, book);
     let mut walked = Sums::default();
     for _ in 0..plan.walks {
-        walked = walk_claims(register, plan.claims, walked);
+        walked = walk_claims(register, plan.size.claims, walked);
     }
     let mut read = Sums::default();
     for _ in 0..plan.reads {

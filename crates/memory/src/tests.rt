@@ -10,7 +10,7 @@ use values::day::Day;
 // What lies in memory before.
 fn old_entry() -> Result<Entry, Fail> {
     Ok(Entry {
-        booked: Day::new(19_991_231).map_err(|_| "no such day")?,
+        booked: Day::new(19_991_231)?,
         claim: 77,
         content: Content::Void(Void { names: 77 }),
     })

@@ -1,3 +1,5 @@
 pub mod Arguments
+pub mod Draws
 pub mod Leftover
 pub mod Samples
+pub mod Size

@@ -2,8 +2,9 @@
 #![tactic(auto)]
 
 pub mod arguments;
+pub mod busiest;
 pub mod happening;
 pub mod leftover;
 pub mod random;
 pub mod samples;
-pub mod spread;
+pub mod size;

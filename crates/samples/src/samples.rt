@@ -1,8 +1,10 @@
 // A source of days, claim days and amounts.
-ghost use Rattle.std.specs.Prelude.{◌≡◌, ◌-◌};
+ghost use Rattle.std.specs.Prelude.{◌≡◌, ◌+◌, ◌-◌, ◌<◌, ◌^◌};
 ghost use Rattle.values.specs.Making.{day_of, amount_of, claim_days_of};
-ghost use Rattle.samples.specs.Samples.{amount_drawn, day_number, drawn, next};
+ghost use Rattle.samples.specs.Samples.{amount_drawn, day_number, drawn, index_drawn, next};
+ghost use Rattle.samples.specs.Draws.{drawn_twice};
 
+use crate::busiest::Busiest;
 use crate::random::Random;
 use values::amount::Amount;
 use values::claim_days::ClaimDays;
@@ -45,7 +47,7 @@ impl Samples {
 
     // Three claim days in order, the last of them with a count.
     pub fn claim_days(&mut self, report: u64) -> Result<ClaimDays, ValueFault>
-        ensures state { self.new.random.state ≡ next (next self.old.random.state) }
+        ensures after { self.new ≡ drawn_twice self.old }
         ensures value { let year = self.old.first_year in let first = next self.old.random.state in let occurrence = report - drawn first self.old.report_delay in let inception = occurrence - drawn (next first) 336 in result ≡ claim_days_of (day_number year inception) (day_number year occurrence) (day_number year report) }
     {
         let occurrence = report.saturating_sub(self.random.below(self.report_delay));
@@ -59,7 +61,7 @@ impl Samples {
 
     // From 1 to 1,000,000 cents, one time in four taken back.
     fn cents(&mut self) -> i64
-        ensures state { self.new.random.state ≡ next (next self.old.random.state) }
+        ensures after { self.new ≡ drawn_twice self.old }
         ensures value { result ≡ amount_drawn self.old.random.state }
     {
         let cents = 1 + self.random.below(1_000_000) as i64;
@@ -72,9 +74,25 @@ impl Samples {
 
     // An amount of up to 10,000.00, paid or, one time in four, taken back.
     pub fn amount(&mut self) -> Result<Amount, ValueFault>
-        ensures state { self.new.random.state ≡ next (next self.old.random.state) }
+        ensures after { self.new ≡ drawn_twice self.old }
         ensures value { result ≡ amount_of (amount_drawn self.old.random.state) }
     {
         Amount::new(self.cents())
+    }
+
+    // One of so many claims, counted from 0: every second time one of the busiest tenth.
+    pub fn claim_index(&mut self, claims: u32, busiest: Busiest) -> u32
+        ensures after { self.new ≡ drawn_twice self.old }
+        ensures value { result ≡ index_drawn busiest claims self.old.random.state }
+        ensures small { result + 1 < 2 ^ 32 }
+    {
+        if self.random.below(2) == 0 {
+            return self.random.below(claims as u64) as u32;
+        }
+        let within = self.random.below(claims as u64 / 10) as u32;
+        match busiest {
+            Busiest::First => within,
+            Busiest::Last => claims.saturating_sub(1).saturating_sub(within),
+        }
     }
 }
