@@ -6,3 +6,4 @@ pub mod Iterators
 pub mod Paged
 pub mod Pages
 pub mod Registers
+pub mod Terms

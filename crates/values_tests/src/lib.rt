@@ -51,13 +51,9 @@ mod tests {
     // 300 years of 365 days, and a 29 February in every fourth but for 1900 and 2100: 75 less 2.
     #[test]
     fn every_day(rt: HostRuntime) {
-        let mut count = 0u32;
-        for number in 19_000_000..22_000_001u64 {
-            if let Ok(day) = Day::new(number) {
-                assert_eq!(rt; u64::from(day.number()), number);
-                count = count.saturating_add(1);
-            }
-        }
+        let count = (19_000_000..22_000_001u64)
+            .filter(|number| Day::new(*number).is_ok_and(|day| u64::from(day.number()) == *number))
+            .count();
         assert_eq!(rt; count, 109_573);
     }
 

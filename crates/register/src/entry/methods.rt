@@ -1,8 +1,23 @@
-// What an entry tells of itself.
+// Making the terms of a movement, and what an entry tells of itself.
 ghost use Rattle.std.specs.Prelude.{◌≡◌};
 ghost use Rattle.register.specs.Entries.{is_opening, is_movement, named_by};
+ghost use Rattle.register.specs.Terms.{new_terms};
 
-use super::{Content, Entry};
+use super::{Content, Entry, Terms};
+use values::amount::Amount;
+use values::day::Day;
+use values::fault::ValueFault;
+
+impl Terms {
+    // The terms with these numbers, or the fault of the first that is no day or no amount.
+    pub fn new(effective: u64, cents: i64) -> Result<Terms, ValueFault>
+        ensures { result ≡ new_terms effective cents }
+    {
+        let effective = Day::new(effective)?;
+        let amount = Amount::new(cents)?;
+        Ok(Terms { effective, amount })
+    }
+}
 
 impl Entry {
     // Whether it opens a claim.
