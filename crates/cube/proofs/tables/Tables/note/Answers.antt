@@ -1,9 +1,17 @@
-use Rattle.std.proofs.Common.{◌+◌, true, length, take, set, vec_items, sym, ap, ◌∙◌, arith}
-use Rattle.cube.specs.Tables.{days_by_claim, replaced_by_number}
+use Rattle.std.proofs.Common.{◌+◌, true, length, take, set, vec_items, sym, ap, ◌∙◌, subst, arith}
+use Rattle.std.proofs.lemmas.List.{take_all}
+use Rattle.cube.specs.Tables.{Tabled, days_by_claim, replaced_by_number}
 use Rattle.cube.proofs.KnownClaims.{claim_within}
-use Rattle.cube.proofs.KnownEntries.{next_entry}
+use Rattle.cube.proofs.KnownEntries.{next_entry, no_next}
 use Rattle.cube.proofs.Noted.{days_noted, length_days, length_replaced, none_noted, one_noted, replaced_within}
 use Rattle.cube.proofs.tables.Tables.note.Goals as goal
+
+pub returns-in_default-clause-tables : goal.returns-in_default-clause-tables
+returns-in_default-clause-tables g c =
+    let book = g.R.Register.meaning c.args.register.now in
+    let past = no_next book.entries c.args.before c.in_default.ensures in
+    let same = take_all c.args.before book.entries past ∙ sym (take_all (c.args.before + 1) book.entries (omega arith)) in
+    subst (λ es. Tabled book.bound es c.args.self.now) same c.requires.tables
 
 pub note_days-requires : goal.note_days-requires
 note_days-requires g c =
