@@ -9,6 +9,7 @@ use Rattle.values.specs.declared.day.Day.{Day}
 use Rattle.register.specs.Entries.{entry_in}
 use Rattle.register.specs.Registers.{Meaning, claims_known, is_claim, numbered_from}
 use Rattle.register.specs.declared.entry.Entry.{Entry}
+use Rattle.register.specs.declared.numbered.NumberedEntry.{NumberedEntry}
 use Rattle.cube.specs.Queries.{booked_by, is_booked_by}
 use Rattle.cube.proofs.KnownClaims.{entry_known}
 
@@ -79,6 +80,18 @@ next_entry es i e is =
 
     some_same : (x y : Entry) → Some x ≡ Some y → x ≡ y
     some_same x y h = cc
+
+-- an entry among the first with their numbers, by its place
+pub numbered_at : (count : ℕ) (es : List Entry) (i : ℕ) (x : NumberedEntry) → i < length (take count (numbered_from 0 es)) → x ≡ get_or (take count (numbered_from 0 es)) i x → (x.number ≡ i + 1) × (Some x.entry ≡ entry_in es (i + 1)) × (i < count)
+numbered_at count es i x within is =
+    let at = from count 0 es i within is in
+    (omega (arith, at.0), at.1 ∙ sym (cond-false _ _ _ (ne_eqb (i + 1) 0 (λ z. omega arith)) ∙ ap (slice_get es) (omega arith)), at.2)
+  where
+    from : (k n : ℕ) (xs : List Entry) (j : ℕ) → j < length (take k (numbered_from n xs)) → x ≡ get_or (take k (numbered_from n xs)) j x → (x.number ≡ n + j + 1) × (Some x.entry ≡ slice_get xs j) × (j < k)
+    from zero n xs j h at = absurd (omega arith)
+    from (suc k) n [] j h at = absurd (omega arith)
+    from (suc k) n (e ∷ xs) zero h at = (ap (λ y. y.number) at ∙ omega arith, ap (λ y. Some y.entry) at, omega arith)
+    from (suc k) n (e ∷ xs) (suc j) h at = let rest = from k (n + 1) xs j (omega arith) at in (omega (arith, rest.0), rest.1, omega (arith, rest.2))
 
 -- past the last entry there is none more
 pub no_next : (es : List Entry) (i : ℕ) → None ≡ entry_in es (i + 1) → length es ≤ i

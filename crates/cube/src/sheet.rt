@@ -77,6 +77,7 @@ pub(crate) struct Cells<'a, C: Cohort> {
 impl<'a, C: Cohort> Cells<'a, C> {
     ghost use Rattle.cube.specs.Cells.{Adds};
 
+    // The cells of a sheet that has the length that the cohort asks.
     pub(crate) fn new(cohort: &'a C, cells: &'a mut [i64]) -> Cells<'a, C>
         requires { length cells.old ≡ sheet_length (C.meaning cohort.now) }
         ensures lent { result.cells.ghost_name ≡ cells.entry.ghost_name }

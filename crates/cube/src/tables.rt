@@ -1,9 +1,10 @@
 // Tables of the first entries of a register.
-ghost use Rattle.std.specs.Prelude.{◌≡◌, ◌+◌, ◌^◌, ◌<◌, false, not, ◌&&◌, [], get_or, take, IfOk, None, vec_len, slice_index_or, slice_set};
-ghost use Rattle.register.specs.Entries.{days_after, is_movement};
+ghost use Rattle.std.specs.Prelude.{◌≡◌, ◌+◌, ◌<◌, false, not, ◌&&◌, [], get_or, take, IfOk, None, vec_len, slice_index_or, slice_set, Some};
+ghost use Rattle.register.specs.Entries.{days_after, entry_in};
 ghost use Rattle.cube.specs.Tables.{Tabled, replaced_next};
 
 use crate::reading::{days_after, entry_among};
+use register::entries::all_entries;
 use register::entry::Entry;
 use register::register::Register;
 use std::alloc::{AllocError, Global};
@@ -53,17 +54,14 @@ impl Tables {
         self.claim_days[claim] = days_after(self.claim_days[claim], entry);
     }
 
-    // Notes one entry more, after the first `before` entries.
-    fn note<R: Register>(&mut self, register: &R, before: u32)
+    // Notes the entry that comes after the first `before` entries.
+    fn note<R: Register>(&mut self, register: &R, before: u32, entry: Entry)
         requires tables { Tabled (R.meaning register.now).bound (take before (R.meaning register.now).entries) self.old }
         requires before { before < self.old.count }
-        requires number { before + 1 < 2 ^ 32 }
+        requires next { Some entry ≡ entry_in (R.meaning register.now).entries (before + 1) }
         ensures tables { Tabled (R.meaning register.now).bound (take (before + 1) (R.meaning register.now).entries) self.new }
         ensures count { self.new.count ≡ self.old.count }
     {
-        let Some(entry) = register.entry(before + 1) else {
-            return;
-        };
         self.note_days(entry);
         if let Some(replaced) = replaced_by(register, before, entry) {
             self.replaced[replaced as usize] = true;
@@ -80,9 +78,8 @@ impl Tables {
         ensures count { IfOk result (λ t. t.count ≡ count) }
     {
         let mut tables = Tables::new(heap, count, register.claim_bound())?;
-        // By number and not by the register's iterator: an entry is noted by how many come before it.
-        for before in 0..count {
-            tables.note(register, before);
+        for next in all_entries(register).take(count as usize) {
+            tables.note(register, next.number - 1, next.entry);
         }
         Ok(tables)
     }

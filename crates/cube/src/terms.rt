@@ -22,7 +22,7 @@ pub struct Change {
 impl Direction {
     // The change that a number of cents or of claims makes.
     fn change(self, number: i64) -> Change
-        requires { neg_ℤ (pos 9223372036854775807) ≤ℤ number }
+        requires { neg_ℤ i64.MAX ≤ℤ number }
         ensures { result.cents ≡ directed self number }
     {
         match self {
