@@ -63,11 +63,6 @@ fn redating(booked: u64, claim: u32, claim_days: ClaimDays) -> Result<Entry, Val
     entry(booked, claim, Content::Redating(claim_days))
 }
 
-// What is left in memory from other work: an entry that no register takes.
-pub fn leftover() -> Result<Entry, ValueFault> {
-    payment(19991231, 9999, 19991231, -1)
-}
-
 // Twelve entries, booked on the days from March to July 2024. Claim 4 is one more than the registers take, and the last
 // entry one more than they hold.
 pub fn small_book() -> Result<[Entry; 12], ValueFault> {

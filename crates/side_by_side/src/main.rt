@@ -8,10 +8,11 @@ mod request;
 mod serve;
 mod text;
 
-use book::{leftover, small_book};
+use book::small_book;
 use keep::{Desk, Tally};
 use memory::flat::FlatMemory;
 use memory::paged::PagedMemory;
+use samples::leftover::leftover;
 
 // How many entries both registers take.
 const ENTRIES: u32 = 10;
