@@ -1,12 +1,11 @@
 // Making requests of numbers: each gives the request, or the fault of the first number that is no day or no amount.
 ghost use Rattle.std.specs.Prelude.{◌≡◌};
 ghost use Rattle.register.specs.declared.kind.MovementKind.TheVariants.{Paid, Reserved};
-ghost use Rattle.quarter.specs.Asking.{movement_of, opening_of, post_of, query_of, redating_of, terms_of, void_of};
+ghost use Rattle.quarter.specs.Asking.{movement_of, opening_of, post_of, query_of, redating_of, void_of};
 
 use cube::request::Request;
 use register::entry::Terms;
 use register::kind::MovementKind;
-use values::amount::Amount;
 use values::claim_days::ClaimDays;
 use values::day::Day;
 use values::fault::ValueFault;
@@ -25,14 +24,6 @@ pub fn opening(
     Ok(Request::Open { booked, claim_days })
 }
 
-fn terms(effective: u64, cents: i64) -> Result<Terms, ValueFault>
-    ensures { result ≡ terms_of effective cents }
-{
-    let effective = Day::new(effective)?;
-    let amount = Amount::new(cents)?;
-    Ok(Terms { effective, amount })
-}
-
 fn movement(
     kind: MovementKind,
     booked: u64,
@@ -43,7 +34,7 @@ fn movement(
     ensures { result ≡ movement_of kind booked claim effective cents }
 {
     let booked = Day::new(booked)?;
-    let terms = terms(effective, cents)?;
+    let terms = Terms::new(effective, cents)?;
     Ok(Request::Movement {
         kind,
         booked,
@@ -98,7 +89,7 @@ pub fn post(place: usize, booked: u64, effective: u64, cents: i64) -> Result<Req
     ensures { result ≡ post_of place booked effective cents }
 {
     let booked = Day::new(booked)?;
-    let terms = terms(effective, cents)?;
+    let terms = Terms::new(effective, cents)?;
     Ok(Request::Post {
         place,
         booked,

@@ -1,6 +1,5 @@
 // The small book of claims.
 use register::entry::{Content, Correction, Entry, Terms, Void};
-use values::amount::Amount;
 use values::claim_days::ClaimDays;
 use values::day::Day;
 use values::fault::ValueFault;
@@ -15,18 +14,12 @@ fn entry(booked: u64, claim: u32, content: Content) -> Result<Entry, ValueFault>
     })
 }
 
-fn terms(effective: u64, cents: i64) -> Result<Terms, ValueFault> {
-    let effective = Day::new(effective)?;
-    let amount = Amount::new(cents)?;
-    Ok(Terms { effective, amount })
-}
-
 fn opening(booked: u64, claim: u32, claim_days: ClaimDays) -> Result<Entry, ValueFault> {
     entry(booked, claim, Content::Opening(claim_days))
 }
 
 fn payment(booked: u64, claim: u32, effective: u64, cents: i64) -> Result<Entry, ValueFault> {
-    let terms = terms(effective, cents)?;
+    let terms = Terms::new(effective, cents)?;
     entry(booked, claim, Content::Payment(terms))
 }
 
@@ -36,7 +29,7 @@ fn reserve_change(
     effective: u64,
     cents: i64,
 ) -> Result<Entry, ValueFault> {
-    let terms = terms(effective, cents)?;
+    let terms = Terms::new(effective, cents)?;
     entry(booked, claim, Content::ReserveChange(terms))
 }
 
@@ -47,7 +40,7 @@ fn correction(
     effective: u64,
     cents: i64,
 ) -> Result<Entry, ValueFault> {
-    let terms = terms(effective, cents)?;
+    let terms = Terms::new(effective, cents)?;
     entry(
         booked,
         claim,
