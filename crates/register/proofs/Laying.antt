@@ -1,7 +1,7 @@
 -- The layout of the paged register: what follows from it, and that one more entry keeps it. Assumes nothing.
-use Rattle.std.proofs.Common.{◌≡◌, ℕ, suc, ◌+◌, ◌-◌, ◌*◌, ◌%◌, ◌<◌, ◌≤◌, true, cond, eqb, ◌⊎◌, List, [], ◌∷◌, ◌++◌, map, length, get_or, set, replicate, sym, refl, ap, ◌∙◌, inl, inr, arith}
-use Rattle.std.proofs.lemmas.List.{get_or-map, length-map, get_or_append_left, get_or_push, get_or-set_same, get_or-set_other, length_push, length-set, map_push, get_or-replicate, length-replicate}
-use Rattle.std.proofs.lemmas.List.Sums.{AllPass-from_list_all, sum_by-le, sum_by-set}
+use Rattle.std.proofs.Common.{◌≡◌, ℕ, suc, ◌+◌, ◌-◌, ◌*◌, ◌%◌, ◌<◌, ◌≤◌, true, cond, eqb, ◌⊎◌, List, [], ◌∷◌, ◌++◌, map, length, get_or, set, sym, refl, ap, ◌∙◌, inl, inr, arith}
+use Rattle.std.proofs.lemmas.List.{get_or-map, length-map, get_or_append_left, get_or_push, get_or-set_same, get_or-set_other, length_push, length-set, map_push}
+use Rattle.std.proofs.lemmas.List.Sums.{AllPass-from_list_all, sum_by-set}
 use Rattle.std.proofs.lemmas.Bool.{and_parts, and_from, leb-true, le-leb, cond-true, cond-false, eq-eqb, ne_eqb, cases_eq}
 use Rattle.register.specs.declared.cards.ClaimCard.{ClaimCard}
 use Rattle.register.specs.declared.cards.PageCard.{PageCard}
@@ -45,34 +45,6 @@ map_same f g (x ∷ xs) same =
     let head = same 0 (omega arith) in
     let rest = map_same f g xs (λ i h. same (suc i) (omega arith)) in
     simp (head, rest)
-
-abbrev no_entries : ClaimCard
-no_entries = record { first = 0; last = 0; spare = 0 }
-
-no_spares : (n : ℕ) → spare_slots (replicate n no_entries) ≡ 0
-no_spares n =
-    omega (
-      arith,
-      sum_by-le (λ card. card.spare) 0 (replicate n no_entries)
-          (λ i d within. omega (arith, length-replicate n no_entries, ap (λ x. x.spare) (get_or-replicate n i no_entries d (omega (arith, length-replicate n no_entries))))),
-    )
-
--- with no page in use, no place and cleared cards, whatever the slots hold
-pub laid_empty : (pages : List PageCard) (slots : List NumberedEntry) (cards : List ClaimCard) (places : List ℕ) (n : ℕ) → pages ≡ [] → places ≡ [] → cards ≡ replicate n no_entries → Laid pages slots cards places
-laid_empty pages slots cards places n no_page none cleared =
-    let short : length places ≡ 0 = ap length none in
-    let card : (c : ℕ) → 1 ≤ c → c ≤ length cards → card_of cards c ≡ no_entries =
-    λ c a b. ap (λ k. card_of k c) cleared ∙ get_or-replicate n (c - 1) no_entries no_entries (omega (arith, ap length cleared, length-replicate n no_entries)) in
-    record {
-      numbered = λ k a b. absurd (omega arith);
-      within = λ k a b. absurd (omega arith);
-      linked = λ k a b. absurd (omega arith);
-      lasts = λ c a b. ap (λ x. x.last) (card c a b) ∙ sym (ap (last_of (claim_of slots places) c) short);
-      spares = λ c a b. ap (λ x. x.spare) (card c a b) ∙ sym (ap (λ x. spare_after places x.last) (card c a b));
-      counted = omega (arith, ap length no_page, ap spare_slots cleared, no_spares n);
-      fit = omega (arith, ap length no_page);
-      known = ap (λ ps. claims_known (length cards) (entries_of slots ps)) none;
-    }
 
 -- what one more entry asks: the entry e goes to slot s, the pages become pages', and its claim's card gets first and spare
 pub record Grows (pages : List PageCard) (slots : List NumberedEntry) (cards : List ClaimCard) (places : List ℕ) (e : Entry) (s : ℕ) (pages' : List PageCard) (first spare : ℕ) : Type 0 where

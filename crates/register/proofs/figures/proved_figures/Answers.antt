@@ -2,6 +2,6 @@ use Rattle.std.proofs.Common.{refl}
 use Rattle.values.specs.Making.{provided}
 use Rattle.register.proofs.figures.proved_figures.Goals as goal
 
-pub returns : goal.returns
+pub returns-clause-hold : goal.returns-clause-hold
 unfolding provided
-returns c = record { count = refl; hold = refl }
+returns-clause-hold c = refl

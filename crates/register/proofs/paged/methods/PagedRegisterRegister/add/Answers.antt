@@ -1,4 +1,4 @@
-use Rattle.std.proofs.Common.{◌≡◌, ℕ, ◌+◌, ◌-◌, ◌<◌, true, List, [], ◌∷◌, ◌++◌, length, Ok, sym, ap, ◌∙◌, arith, rules}
+use Rattle.std.proofs.Common.{◌≡◌, ℕ, ◌+◌, ◌-◌, ◌<◌, true, List, [], ◌∷◌, ◌++◌, length, sym, ap, ◌∙◌, arith, rules}
 use Rattle.std.proofs.lemmas.List.{length-map, length_push, length-set}
 use Rattle.std.proofs.lemmas.Bool.{cond-true, cond-false, ne_eqb}
 use Rattle.register.specs.declared.entry.Entry.{Entry}
@@ -6,9 +6,8 @@ use Rattle.register.specs.declared.paged.PagedRegister.{PagedRegister}
 use Rattle.register.specs.Entries.{openings_in}
 use Rattle.register.specs.Paged.{paged_meaning}
 use Rattle.register.specs.Pages.{paged_capacity, slot_at}
-use Rattle.register.specs.Registers.{Meaning, is_claim, add_answer, after_add}
+use Rattle.register.specs.Registers.{Meaning, is_claim, after_add}
 use Rattle.register.proofs.Booked.{openings_le, openings_push, push_fits}
-use Rattle.register.proofs.Laying.{is_claim_lem}
 use Rattle.register.proofs.Kept.{few_pages, kept, page_there, slot_in}
 use Rattle.register.proofs.paged.methods.PagedRegisterRegister.add.Goals as goal
 
@@ -23,28 +22,17 @@ module _ (r : PagedRegister) where
 same_capacity : {a b c d a' b' c' d' : ℕ} → a ≡ a' → b ≡ b' → c ≡ c' → d ≡ d' → paged_capacity a b c d ≡ paged_capacity a' b' c' d'
 same_capacity p q s t = simp (p, q, s, t)
 
-pub overflow_add-number : goal.overflow_add-number
-overflow_add-number c = omega (arith, c.len-len.ensures, long c.args.self.now, c.args.self.now.spacious)
-
 pub overflow_cast-used : goal.overflow_cast-used
 overflow_cast-used c = omega (arith, c.len-used.ensures, few_pages c.args.self.now)
 
-pub free_slot-slot-requires : goal.free_slot-slot-requires
-free_slot-slot-requires c =
+pub free_slot-slot-requires-clause-free : goal.free_slot-slot-requires-clause-free
+free_slot-slot-requires-clause-free c =
     let r = c.args.self.now in
     let is : is_claim (length r.claims.now) c.args.entry.claim ≡ true = search rules in
-    record {
-      free = page_there r c.args.entry is (free r _ _ c.len-len.ensures c.capacity.ensures c.if-len-capacity.false) c.card-card.result c.card-card.ensures c.place_of-last_slot.result c.place_of-last_slot.ensures.value;
-      few = omega (arith, few_pages r);
-      within = omega (arith, c.place_of-last_slot.ensures.small);
-    }
+    page_there r c.args.entry is (free r _ _ c.len-len.ensures c.capacity.ensures c.if-len-capacity.false) c.card-card.result c.card-card.ensures c.place_of-last_slot.result c.place_of-last_slot.ensures.value
 
-pub offset_bounds-slots-slot : goal.offset_bounds-slots-slot
-offset_bounds-slots-slot c =
-    let r = c.args.self.now in
-    let is : is_claim (length r.claims.now) c.args.entry.claim ≡ true = search rules in
-    let room = free r _ _ c.len-len.ensures c.capacity.ensures c.if-len-capacity.false in
-    omega (arith, slot_in r c.args.entry is room c.card-card.result c.card-card.ensures c.place_of-last_slot.result c.place_of-last_slot.ensures.value, c.free_slot-slot.ensures.slot)
+pub free_slot-slot-requires-clause-few : goal.free_slot-slot-requires-clause-few
+free_slot-slot-requires-clause-few c = omega (arith, few_pages c.args.self.now)
 
 pub bounds-slots-slot : goal.bounds-slots-slot
 bounds-slots-slot c =
@@ -52,11 +40,6 @@ bounds-slots-slot c =
     let is : is_claim (length r.claims.now) c.args.entry.claim ≡ true = search rules in
     let room = free r _ _ c.len-len.ensures c.capacity.ensures c.if-len-capacity.false in
     omega (arith, slot_in r c.args.entry is room c.card-card.result c.card-card.ensures c.place_of-last_slot.result c.place_of-last_slot.ensures.value, c.free_slot-slot.ensures.slot)
-
-pub bounds-claims-entry : goal.bounds-claims-entry
-bounds-claims-entry c =
-    let is : is_claim (length c.args.self.now.claims.now) c.args.entry.claim ≡ true = search rules in
-    omega (arith, (is_claim_lem (length c.args.self.now.claims.now) c.args.entry.claim is).0, (is_claim_lem (length c.args.self.now.claims.now) c.args.entry.claim is).1)
 
 pub overflow_cast-slot : goal.overflow_cast-slot
 overflow_cast-slot c =
@@ -101,13 +84,11 @@ same_meaning : {es es' : List Entry} {a b a' b' : ℕ} → es ≡ es' → a ≡ 
 same_meaning p q s = simp (p, q, s)
 
 -- an entry that is not refused is added
-accepted : (m : Meaning) (e : Entry) → is_claim m.bound e.claim ≡ true → (length m.entries ≡ m.capacity → ⊥) → (add_answer m e ≡ Ok (length m.entries + 1)) × (after_add m e ≡ record { entries = m.entries ++ (e ∷ []); capacity = m.capacity; bound = m.bound })
-accepted m e is other =
-    let room = ne_eqb (length m.entries) m.capacity other in
-    (cond-true _ _ _ is ∙ cond-false _ _ _ room, cond-true _ _ _ is ∙ cond-false _ _ _ room)
+accepted : (m : Meaning) (e : Entry) → is_claim m.bound e.claim ≡ true → (length m.entries ≡ m.capacity → ⊥) → after_add m e ≡ record { entries = m.entries ++ (e ∷ []); capacity = m.capacity; bound = m.bound }
+accepted m e is other = cond-true _ _ _ is ∙ cond-false _ _ _ (ne_eqb (length m.entries) m.capacity other)
 
-pub returns : goal.returns
-returns c =
+pub returns-clause-after : goal.returns-clause-after
+returns-clause-after c =
     let r = c.args.self.now in
     let is : is_claim (length r.claims.now) c.args.entry.claim ≡ true = search rules in
     let room = free r _ _ c.len-len.ensures c.capacity.ensures c.if-len-capacity.false in
@@ -118,8 +99,4 @@ returns c =
     number c.len-used.ensures c.free_slot-slot.ensures.slot c.free_slot-slot.ensures.pages c.moved_on.ensures pushed in
     let claims = length-set r.claims.now (c.args.entry.claim - 1) c.moved_on.result in
     let capacity = same_capacity c.free_slot-slot.ensures.room (length-set r.slots.now c.free_slot-slot.result (record { number = c.len-len.result + 1; entry = c.args.entry })) claims c.push.ensures.room in
-    let step = accepted (paged_meaning r) c.args.entry is (λ full. c.if-len-capacity.false (c.len-len.ensures ∙ full ∙ sym c.capacity.ensures)) in
-    record {
-      answer = ap (λ n. Ok (n + 1)) c.len-len.ensures ∙ sym step.0;
-      after = same_meaning k.1 capacity claims ∙ sym step.1;
-    }
+    same_meaning k.1 capacity claims ∙ sym (accepted (paged_meaning r) c.args.entry is (λ full. c.if-len-capacity.false (c.len-len.ensures ∙ full ∙ sym c.capacity.ensures)))
