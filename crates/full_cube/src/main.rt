@@ -26,8 +26,8 @@ use samples::leftover::leftover;
 use session::{Report, book_and_query, book_only, quarters, write_book};
 use std::alloc::Global;
 
-// Runs the flat log. It and the next stay two functions: a register borrows its memory, and Rattle has no associated type that
-// could say for both kinds of memory what is borrowed.
+// Runs the flat log.
+// A twin of `run_paged`: one function for both would need a visitor, since a register borrows its memory, and be longer.
 fn run_flat(
     heap: Global,
     requests: &[Request],

@@ -18,8 +18,8 @@ use report::{Report, run_on, show_report};
 use samples::leftover::leftover;
 use std::alloc::Global;
 
-// Runs the flat log. It and the next stay two functions: a register borrows its memory, and Rattle has no associated type that
-// could say for both kinds of memory what is borrowed.
+// Runs the flat log.
+// A twin of `run_paged`: one function for both would need a visitor, since a register borrows its memory, and be longer.
 fn run_flat(heap: Global, book: &[Entry], plan: Plan) -> anyhow::Result<Report> {
     let mut memory = FlatMemory::filled(heap, leftover()?, MOST_ENTRIES, MOST_CLAIMS)?;
     for _ in 1..plan.bookings {
