@@ -1,5 +1,5 @@
-// The two registers, over memory that is made for them. The two functions differ in the memory's type alone: a trait over both
-// memories would be longer than they are.
+// The two registers, over memory that is made for them.
+// The functions differ in the memory's type alone, but a trait over both types would be longer than they are.
 use crate::keeping::{Kept, keep};
 use crate::rows::Rows;
 use memory::flat::FlatMemory;

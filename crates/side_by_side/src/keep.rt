@@ -78,8 +78,8 @@ impl<'a, F: Register, P: Register> Desk<'a, F, P> {
         Ok(())
     }
 
-    // Goes through the entries of a claim, from each to the next. The steps are asked for, and not taken by an iterator, since
-    // each is a request to both registers.
+    // Goes through the entries of a claim, from each to the next.
+    // The steps are not taken by the register's iterator, since each is a request to both registers.
     fn walk_claim(&mut self, claim: u32) -> anyhow::Result<()> {
         self.ask(Request::EntriesOfClaim(claim))?;
         let mut after = 0;

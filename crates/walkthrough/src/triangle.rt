@@ -6,8 +6,8 @@ use crate::shape::Shape;
 
 mod methods;
 
-// Sums in cents, by place. The cube's sheet is another thing: it lies in lent memory and has three measures, and its cells are
-// found for places of its cohort alone, where a triangle takes any place.
+// Sums in cents, by place.
+// Not the cube's sheet: that has three measures in lent memory, and takes only the places of its cohort.
 #[derive(Drop)]
 pub struct Triangle {
     shape: Shape,
