@@ -13,3 +13,4 @@ pub mod Runs
 pub mod Sheets
 pub mod Tables
 pub mod Triangles
+pub mod Texts

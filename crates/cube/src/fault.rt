@@ -1,6 +1,7 @@
 // Why a call on a cube is refused.
-ghost use Rattle.std.specs.Prelude.{◌≡◌};
+ghost use Rattle.std.specs.Prelude.{◌≡◌, Some};
 ghost use Rattle.cube.specs.Faults.{call_fault_number};
+ghost use Rattle.cube.specs.Texts.{call_fault_text, query_fault_text};
 ghost use Rattle.cube.specs.declared.fault.QueryFault.TheVariants.{OutOfMemory, Refused};
 
 use std::alloc::AllocError;
@@ -61,8 +62,10 @@ impl CallFault {
 }
 
 impl fmt::Display for CallFault {
+    ghost output = { λ fault. Some (call_fault_text fault) };
+
     fn fmt<W: fmt::Write>(&self, f: &mut fmt::Formatter<W>) -> fmt::Result {
-        let reason = match self {
+        f.write_str(match self {
             CallFault::SheetLength => "the sheet has another length",
             CallFault::RegisterNotEmpty => "the register has entries already",
             CallFault::NoRoom => "the register takes no entry or no claim",
@@ -79,8 +82,7 @@ impl fmt::Display for CallFault {
             CallFault::UnderDraft => "a draft is open on the entry, or on another one",
             CallFault::NotTheDraft => "the ticket is not that of the open draft",
             CallFault::MovementBeforeReport => "a movement is before the new report day",
-        };
-        write!(f, "{reason}")
+        })
     }
 }
 
@@ -103,6 +105,8 @@ impl From<AllocError> for QueryFault {
 }
 
 impl fmt::Display for QueryFault {
+    ghost output = { λ fault. Some (query_fault_text fault) };
+
     fn fmt<W: fmt::Write>(&self, f: &mut fmt::Formatter<W>) -> fmt::Result {
         match self {
             QueryFault::Refused(fault) => write!(f, "{fault}"),

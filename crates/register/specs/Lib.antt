@@ -7,3 +7,4 @@ pub mod Paged
 pub mod Pages
 pub mod Registers
 pub mod Terms
+pub mod Texts

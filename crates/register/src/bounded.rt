@@ -1,5 +1,5 @@
 // A list of bounded length over lent memory.
-ghost use Rattle.std.specs.Prelude.{◌≡◌, [], ◌∷◌, ◌++◌, length, if◌then◌else◌, nat_lt, slice_set};
+ghost use Rattle.std.specs.Prelude.{◌≡◌, [], ◌∷◌, ◌++◌, length, if◌then◌else◌, nat_lt, slice_set, codes, Some};
 ghost use Rattle.std.specs.List.{slice_get};
 ghost use Rattle.std.specs.Result.{is_ok};
 
@@ -12,8 +12,10 @@ use std::{fmt, mem};
 pub struct CapacityError;
 
 impl fmt::Display for CapacityError {
+    ghost output = { λ _. Some (codes "the list is full") };
+
     fn fmt<W: fmt::Write>(&self, f: &mut fmt::Formatter<W>) -> fmt::Result {
-        write!(f, "the list is full")
+        f.write_str("the list is full")
     }
 }
 

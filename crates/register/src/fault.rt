@@ -1,4 +1,7 @@
 // Why a register does not take an entry.
+ghost use Rattle.std.specs.Prelude.{Some};
+ghost use Rattle.register.specs.Texts.{add_fault_text};
+
 use std::error::Error;
 use std::fmt;
 
@@ -12,11 +15,13 @@ pub enum AddFault {
 }
 
 impl fmt::Display for AddFault {
+    ghost output = { λ fault. Some (add_fault_text fault) };
+
     fn fmt<W: fmt::Write>(&self, f: &mut fmt::Formatter<W>) -> fmt::Result {
-        match self {
-            AddFault::NoSuchClaim => write!(f, "no such claim"),
-            AddFault::Full => write!(f, "the register is full"),
-        }
+        f.write_str(match self {
+            AddFault::NoSuchClaim => "no such claim",
+            AddFault::Full => "the register is full",
+        })
     }
 }
 

@@ -1,7 +1,6 @@
 // How amounts, entries, requests and answers are written.
 use crate::request::{Answer, Request};
 use register::entry::{Content, Entry, Terms};
-use register::fault::AddFault;
 use register::numbered::NumberedEntry;
 use std::fmt;
 use values::amount::Amount;
@@ -122,8 +121,7 @@ impl fmt::Display for Answer {
     fn fmt<W: fmt::Write>(&self, f: &mut fmt::Formatter<W>) -> fmt::Result {
         match *self {
             Answer::Added(Ok(number)) => write!(f, "booked as entry {number}"),
-            Answer::Added(Err(AddFault::NoSuchClaim)) => write!(f, "refused: no such claim"),
-            Answer::Added(Err(AddFault::Full)) => write!(f, "refused: the register is full"),
+            Answer::Added(Err(fault)) => write!(f, "refused: {fault}"),
             Answer::Count(count) => write!(f, "{count}"),
             Answer::Entry(found) => Found(found.map(InWords)).fmt(f),
             Answer::Numbered(found) => Found(found.map(NumberedInWords)).fmt(f),
