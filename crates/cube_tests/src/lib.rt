@@ -8,6 +8,7 @@ mod tests {
     use cube::request::{Answer, Request};
     use cube::ticket::Ticket;
     use register::cards::{ClaimCard, PageCard};
+    use register::entries::{all_entries, claim_entries};
     use register::entry::{Content, Entry, Terms, Void};
     use register::flat::FlatLog;
     use register::kind::MovementKind;
@@ -259,6 +260,30 @@ mod tests {
         Ok(())
     }
 
+    // Books two claims with an entry each in turn, and goes through all entries and through those of a claim.
+    fn walk<R: Register + Drop>(rt: &impl Abort, heap: Global, register: R) -> Result<(), Fail> {
+        let mut register = register;
+        for claim in [1, 2, 1, 2, 1] {
+            let entry = Entry {
+                claim,
+                ..leftover()?
+            };
+            assert!(rt; register.add(entry).is_ok());
+        }
+        let all: Vec<u32> = all_entries(&register).map(|found| found.number).collect(heap)?;
+        assert_eq!(rt; all.as_slice(), [1, 2, 3, 4, 5].as_slice());
+        let first: Vec<u32> = claim_entries(&register, 1, 0)
+            .map(|found| found.number)
+            .collect(heap)?;
+        assert_eq!(rt; first.as_slice(), [1, 3, 5].as_slice());
+        let later: Vec<u32> = claim_entries(&register, 2, 2)
+            .map(|found| found.number)
+            .collect(heap)?;
+        assert_eq!(rt; later.as_slice(), [4].as_slice());
+        assert_eq!(rt; claim_entries(&register, 3, 0).count(), 0);
+        Ok(())
+    }
+
     // What lies in memory before.
     fn leftover() -> Result<Entry, Fail> {
         Ok(Entry {
@@ -318,6 +343,18 @@ mod tests {
         let mut memory = PagedMemory::new(rt.alloc())?;
         book(&rt, memory.register())?;
         correct(&rt, memory.register())
+    }
+
+    #[test]
+    fn flat_walk(rt: HostRuntime) -> Result<(), Fail> {
+        let mut slots = vec![in rt.alloc(); leftover()?; 32]?;
+        walk(&rt, rt.alloc(), FlatLog::new(&mut slots, 4))
+    }
+
+    #[test]
+    fn paged_walk(rt: HostRuntime) -> Result<(), Fail> {
+        let mut memory = PagedMemory::new(rt.alloc())?;
+        walk(&rt, rt.alloc(), memory.register())
     }
 
     #[test]

@@ -70,9 +70,7 @@ impl<R: Register> Session<'_, R> {
 fn first_after(requests: &[Request], day: Day) -> Option<usize>
     ensures { result ≡ first_after day requests.now }
 {
-    requests
-        .iter()
-        .position(|request| day.number() < request.booked.number())
+    requests.iter().position(|request| day < request.booked)
 }
 
 // How many requests stand before the first that is to be booked after a day.
