@@ -21,6 +21,7 @@ fn is_leap_year(year: u64) -> bool
 fn month_length(year: u64, month: u64) -> u64
     ensures { result ≡ month_length year month }
 {
+    // the arms are the rule
     match month {
         2 => { if is_leap_year(year) { 29 } else { 28 } }
         4 | 6 | 9 | 11 => 30,

@@ -1,7 +1,8 @@
 // Making a period cohort, its placing and its labels.
-ghost use Rattle.std.specs.Prelude.{◌≡◌, ◌<◌, true, false, IfSome, MatchResult};
+ghost use Rattle.std.specs.Prelude.{◌≡◌, ◌<◌, true, false, IfSome, MatchResult, unwrap_or};
 ghost use Rattle.values.specs.Calendar.{between};
-ghost use Rattle.values.specs.PeriodCohorts.{anchor_day, period_cohort_of, period_meaning, period_label};
+ghost use Rattle.values.specs.PeriodCohorts.{anchor_day, period_cohort_of, period_meaning, period_label, period_place};
+ghost use Rattle.values.specs.declared.place.Place.TheVariants.{Beyond};
 ghost use Rattle.values.specs.PeriodSound.{period_sound};
 ghost use Rattle.values.specs.Periods.{is_period, period_index, first_month};
 
@@ -41,6 +42,7 @@ fn is_period(months: u32) -> bool
 fn check_range(low: u32, high: u32, setting: u32, fault: CohortFault) -> Result<(), CohortFault>
     ensures { MatchResult result (λ _. between low high setting ≡ true) (λ e. (e ≡ fault) × (between low high setting ≡ false)) }
 {
+    // a test and a fault become a Result here, once for all settings
     if (low..=high).contains(&setting) {
         Ok(())
     } else {
@@ -92,6 +94,17 @@ impl PeriodCohort {
         })
     }
 
+    // The cell of a day, none where it is beyond.
+    fn cell(&self, claim_days: ClaimDays, day: Day) -> Option<Place>
+        ensures { unwrap_or result Beyond ≡ period_place self.now claim_days day }
+    {
+        let anchor = self.anchor.day(claim_days).month_number();
+        let row = period_index(self.rows, self.months, self.base, anchor)?;
+        let first = self.first_month(row);
+        let column = period_index(self.columns, self.months, first, day.month_number())?;
+        Some(Place::Cell { row, column })
+    }
+
     // The number of the month in which a row begins.
     fn first_month(&self, row: u32) -> u32
         requires { row < self.now.rows }
@@ -115,15 +128,7 @@ impl Cohort for PeriodCohort {
     }
 
     fn place(&self, claim_days: ClaimDays, day: Day) -> Place {
-        let anchor = self.anchor.day(claim_days).month_number();
-        let Some(row) = period_index(self.rows, self.months, self.base, anchor) else {
-            return Place::Beyond;
-        };
-        let first = self.first_month(row);
-        match period_index(self.columns, self.months, first, day.month_number()) {
-            Some(column) => Place::Cell { row, column },
-            None => Place::Beyond,
-        }
+        self.cell(claim_days, day).unwrap_or(Place::Beyond)
     }
 }
 
@@ -132,6 +137,7 @@ impl LabelledCohort for PeriodCohort {
 
     // Year × 100 + month of the row's first month.
     fn label(&self, row: u32) -> Option<u32> {
+        // no `then`: within a closure it is not known that there is such a row
         if row < self.rows {
             let first = self.first_month(row);
             Some(first / 12 * 100 + first % 12 + 1)
