@@ -137,12 +137,9 @@ impl LabelledCohort for PeriodCohort {
 
     // Year × 100 + month of the row's first month.
     fn label(&self, row: u32) -> Option<u32> {
-        // no `then`: within a closure it is not known that there is such a row
-        if row < self.rows {
+        (row < self.rows).then(|| {
             let first = self.first_month(row);
-            Some(first / 12 * 100 + first % 12 + 1)
-        } else {
-            None
-        }
+            first / 12 * 100 + first % 12 + 1
+        })
     }
 }
