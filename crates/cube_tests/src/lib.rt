@@ -270,7 +270,9 @@ mod tests {
             };
             assert!(rt; register.add(entry).is_ok());
         }
-        let all: Vec<u32> = all_entries(&register).map(|found| found.number).collect(heap)?;
+        let all: Vec<u32> = all_entries(&register)
+            .map(|found| found.number)
+            .collect(heap)?;
         assert_eq!(rt; all.as_slice(), [1, 2, 3, 4, 5].as_slice());
         let first: Vec<u32> = claim_entries(&register, 1, 0)
             .map(|found| found.number)
