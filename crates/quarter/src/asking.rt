@@ -1,4 +1,5 @@
 // Making requests of numbers: each gives the request, or the fault of the first number that is no day or no amount.
+// The numbers come apart and in this order, since the rows of the book and of the quarter are read across like a table.
 ghost use Rattle.std.specs.Prelude.{◌≡◌};
 ghost use Rattle.register.specs.declared.kind.MovementKind.TheVariants.{Paid, Reserved};
 ghost use Rattle.quarter.specs.Asking.{movement_of, opening_of, post_of, query_of, redating_of, void_of};

@@ -107,6 +107,7 @@ pub fn show_place<C: LabelledCohort>(rt: &HostRuntime, cohort: &C) -> anyhow::Re
     print!(rt; "\nA loss of {occurrence} that is reported on {report} counts in ")?;
     match cohort.place(claim_days, claim_days.report) {
         Place::Cell { row, column } => {
+            // The cohort has just placed the row, so it has a label, and the 0 is never printed.
             let label = cohort.label(row).unwrap_or(0);
             println!(rt; "row {label}, column {column}.")?;
         }

@@ -1,5 +1,5 @@
 // The two registers, over memory that is made for them.
-// The functions differ in the memory's type alone, but a trait over both types would be longer than they are.
+// Twins, since a trait over both memories would need an associated type with a lifetime parameter, which the language does not have.
 use crate::keeping::{Kept, keep};
 use crate::rows::Rows;
 use memory::flat::FlatMemory;

@@ -1,5 +1,6 @@
 // A step of the story.
-ghost use Rattle.std.specs.Prelude.{◌≡◌};
+ghost use Rattle.std.specs.Prelude.{◌≡◌, Some, None};
+ghost use Rattle.std.specs.Option.{option_map};
 
 use cube::request::Request;
 
@@ -13,7 +14,8 @@ pub struct Step {
 impl Step {
     // A request that is told after these words.
     pub fn told(words: &'static str, request: Request) -> Step
-        ensures { result.request ≡ request }
+        ensures request { result.request ≡ request }
+        ensures words { option_map (λ said. said.now) result.words ≡ Some words.now }
     {
         Step {
             words: Some(words),
@@ -23,7 +25,7 @@ impl Step {
 }
 
 impl From<Request> for Step {
-    ghost from_gives = { λ asked step. step.request ≡ asked };
+    ghost from_gives = { λ asked step. (step.request ≡ asked) × (step.words ≡ None) };
 
     fn from(request: Request) -> Step {
         Step {

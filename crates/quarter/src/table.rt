@@ -14,6 +14,7 @@ const BESIDE: &str = "
                  PAID                  INCURRED                    CLAIMS
                  then        today         then        today         then        today";
 
+// The order in which they are shown; an array of its own, since each is all that the loops need and nothing lies beside it.
 const MEASURES: [Measure; 3] = [Measure::Paid, Measure::Incurred, Measure::Count];
 
 // The heading of a measure's triangle.

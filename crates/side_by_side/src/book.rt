@@ -1,4 +1,5 @@
 // The small book of claims.
+// The makers take numbers apart and in this order, since the rows of the book are read across like a table.
 use register::entry::{Content, Correction, Entry, Terms, Void};
 use values::claim_days::ClaimDays;
 use values::day::Day;

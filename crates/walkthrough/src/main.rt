@@ -2,6 +2,7 @@
 #![tactic(auto)]
 
 mod booking;
+mod drawing;
 mod opening;
 mod payment;
 mod shape;
@@ -9,6 +10,7 @@ mod steps;
 mod table;
 mod triangle;
 
+use drawing::Drawing;
 use payment::{Line, read_line};
 use shape::Shape;
 use std::io;
@@ -37,18 +39,15 @@ impl Tally {
 }
 
 // Reads the input to its end, adds each payment at its place, and counts what became of the lines.
-fn read_payments<C: LabelledCohort>(
-    rt: &HostRuntime,
-    cohort: &C,
-    triangle: &mut Triangle,
-) -> io::Result<Tally> {
+fn read_payments<C: LabelledCohort>(drawing: &mut Drawing<C>) -> io::Result<Tally> {
+    let rt = drawing.rt;
     let mut tally = Tally::default();
     let lines = BufReader::new(rt.alloc(), rt.stdin())?.split(rt.alloc(), b'\n');
     for (number, line) in (1u64..).zip(lines) {
         let outcome = match read_line(line?.as_slice()) {
             Line::Skipped => continue,
             Line::Unread => steps::pass_over(rt, number)?,
-            Line::Payment(numbers) => steps::take(rt, cohort, triangle, number, numbers)?,
+            Line::Payment(numbers) => drawing.take(number, numbers)?,
         };
         tally.count(outcome);
     }
@@ -62,17 +61,21 @@ fn run(rt: &HostRuntime) -> io::Result<()> {
         return Ok(());
     };
     opening::show_format(rt, &cohort)?;
-    let mut triangle = Triangle::new(rt.alloc(), Shape::of(&cohort))?;
+    let mut drawing = Drawing {
+        rt,
+        cohort: &cohort,
+        triangle: Triangle::new(rt.alloc(), Shape::of(&cohort))?,
+    };
     let Tally {
         added,
         refused,
         unread,
-    } = read_payments(rt, &cohort, &mut triangle)?;
+    } = read_payments(&mut drawing)?;
     rt.println("\nSTEP 3: THE TRIANGLE of the payments that were added\n")?;
     println!(rt;
         "Payments added: {added}. Payments refused: {refused}. Lines not read: {unread}."
     )?;
-    table::show_triangle(rt, &cohort, &triangle)
+    drawing.show_triangle()
 }
 
 // An error of reading or writing, or want of memory, is printed and ends the program with status 1.

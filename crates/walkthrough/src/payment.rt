@@ -70,10 +70,7 @@ impl FromStr for Numbers {
             payment: next_number(&mut words)?,
             cents: next_number(&mut words)?,
         };
-        match words.next() {
-            Some(_) => Err(NotNumbers),
-            None => Ok(numbers),
-        }
+        words.next().is_none().then_some(numbers).ok_or(NotNumbers)
     }
 }
 

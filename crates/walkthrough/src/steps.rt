@@ -1,7 +1,7 @@
 // What the program says of each line of the input.
 use crate::booking::{Booked, book};
+use crate::drawing::Drawing;
 use crate::payment::{Numbers, Payment};
-use crate::triangle::Triangle;
 use std::io;
 use values::amount::Amount;
 use values::cohort::LabelledCohort;
@@ -56,39 +56,38 @@ fn show_numbers(rt: &HostRuntime, line: u64, numbers: Numbers) -> io::Result<()>
     show_amount(rt, numbers.cents)
 }
 
-// Says where a payment went.
-fn show_booked<C: LabelledCohort>(rt: &HostRuntime, cohort: &C, booked: Booked) -> io::Result<()> {
-    let sum = Money(booked.sum);
-    match booked.place {
-        Place::Cell { row, column } => {
-            print!(rt; "  -> row {row}")?;
-            if let Some(label) = cohort.label(row) {
-                print!(rt; " ({label})")?;
+impl<C: LabelledCohort> Drawing<'_, C> {
+    // Says where a payment went.
+    fn show_booked(&self, booked: Booked) -> io::Result<()> {
+        let rt = self.rt;
+        let sum = Money(booked.sum);
+        match booked.place {
+            Place::Cell { row, column } => {
+                print!(rt; "  -> row {row}")?;
+                if let Some(label) = self.cohort.label(row) {
+                    print!(rt; " ({label})")?;
+                }
+                println!(rt; ", column {column}, which then holds {sum}")
             }
-            println!(rt; ", column {column}, which then holds {sum}")
+            Place::Beyond => println!(rt; "  -> beyond the triangle, where there is then {sum}"),
         }
-        Place::Beyond => println!(rt; "  -> beyond the triangle, where there is then {sum}"),
     }
-}
 
-// Says what the numbers of a line become, adds the payment with them unless one is refused, and says what came of it.
-pub fn take<C: LabelledCohort>(
-    rt: &HostRuntime,
-    cohort: &C,
-    triangle: &mut Triangle,
-    line: u64,
-    numbers: Numbers,
-) -> io::Result<Outcome> {
-    show_numbers(rt, line, numbers)?;
-    match Payment::try_from(numbers) {
-        Ok(payment) => {
-            show_booked(rt, cohort, book(triangle, cohort, payment))?;
-            Ok(Outcome::Added)
-        }
-        Err(fault) => {
-            let number = fault.number();
-            println!(rt; "  -> the payment is refused with {number}, and nothing is added")?;
-            Ok(Outcome::Refused)
+    // Says what the numbers of a line become, adds the payment with them unless one is refused, and says what came of it.
+    pub fn take(&mut self, line: u64, numbers: Numbers) -> io::Result<Outcome> {
+        let rt = self.rt;
+        show_numbers(rt, line, numbers)?;
+        match Payment::try_from(numbers) {
+            Ok(payment) => {
+                let booked = book(&mut self.triangle, self.cohort, payment);
+                self.show_booked(booked)?;
+                Ok(Outcome::Added)
+            }
+            Err(fault) => {
+                let number = fault.number();
+                println!(rt; "  -> the payment is refused with {number}, and nothing is added")?;
+                Ok(Outcome::Refused)
+            }
         }
     }
 }
