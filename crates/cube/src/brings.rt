@@ -17,6 +17,7 @@ use values::cohort::Cohort;
 use values::day::Day;
 
 // Where shares fall: the value day, and the claim days that place them.
+// The direction is no field: a placing is given before the content says the direction, and a correction has both under one.
 #[derive(Clone, Copy)]
 pub(crate) struct Placing {
     pub(crate) valued: Option<Day>,

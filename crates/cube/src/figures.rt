@@ -52,11 +52,10 @@ pub fn running_sum(row: &[i64], n: usize) -> i64
 pub fn running_sums(heap: Global, row: &[i64]) -> Result<Vec<i64>, AllocError>
     ensures { IfOk result (λ v. v.items ≡ running_sums row.now) }
 {
-    let mut sums = Vec::new(heap);
-    let mut total = 0i64;
-    for cell in row {
-        total = total.wrapping_add(*cell);
-        sums.push(total)?;
-    }
-    Ok(sums)
+    row.iter()
+        .scan(0i64, |total, cell| {
+            *total = total.wrapping_add(*cell);
+            Some(*total)
+        })
+        .collect(heap)
 }

@@ -1,20 +1,20 @@
 // The entries that are known on a day.
-ghost use Rattle.std.specs.Prelude.{◌≡◌, ◌≤◌, true, length, take, IfOk, IfSome, OnSome};
+ghost use Rattle.std.specs.Prelude.{◌≡◌, ◌≤◌, true, length, take, IfOk, Some};
 ghost use Rattle.register.specs.Entries.{claim_days_in, entry_in, kind_in};
 ghost use Rattle.register.specs.Registers.{is_claim};
 ghost use Rattle.cube.specs.Known.{first_entries};
-ghost use Rattle.cube.specs.Queries.{part_at};
 ghost use Rattle.cube.specs.Cells.{Adds};
 ghost use Rattle.cube.specs.Tables.{is_replaced_in};
-ghost use Rattle.cube.specs.Triangles.{triangle};
+ghost use Rattle.cube.specs.Triangles.{triangle, triangle_part};
 
 use crate::brings::Placing;
-use crate::reading::{entry_among, kind_among};
+use crate::reading::kind_among;
 use crate::sheet::Cells;
 use crate::tables::Tables;
 use crate::terms::{Direction, terms_of};
-use register::entry::Entry;
+use register::entries::all_entries;
 use register::kind::MovementKind;
+use register::numbered::NumberedEntry;
 use register::register::Register;
 use std::alloc::{AllocError, Global};
 use std::marker::Model;
@@ -55,15 +55,6 @@ impl<'a, R: Register> KnownEntries<'a, R> {
         Ok(KnownEntries { register, tables })
     }
 
-    // The entry with a number, if it is one of them.
-    fn entry(&self, number: u32) -> Option<Entry>
-        ensures value { result ≡ entry_in self.now.entries number }
-        ensures number { OnSome result (number ≤ length self.now.entries) }
-        ensures claim { IfSome result (λ e. is_claim self.now.bound e.claim ≡ true) }
-    {
-        entry_among(self.register, self.tables.count, number)
-    }
-
     // Whether the entry with a number counts as a payment or as a reserve change.
     fn kind(&self, number: u32) -> Option<MovementKind>
         ensures { result ≡ kind_in self.now.entries number }
@@ -87,22 +78,27 @@ impl<'a, R: Register> KnownEntries<'a, R> {
         self.tables.is_replaced(number)
     }
 
-    // Adds what the entry with a number has in the triangle: the count of an opening, or a movement that stands.
-    fn add_part<C: Cohort>(&self, cells: &mut Cells<'_, C>, valued: Option<Day>, number: u32)
-        ensures { Adds cells.old cells.new (part_at (C.meaning cells.old.cohort.now) valued self.now.entries number (entry_in self.now.entries number)) }
+    // Adds what one of these entries has in the triangle: the count of an opening, or a movement that stands.
+    fn add_part<C: Cohort>(
+        &self,
+        cells: &mut Cells<'_, C>,
+        valued: Option<Day>,
+        found: NumberedEntry,
+    )
+        requires found { Some found.entry ≡ entry_in self.now.entries found.number }
+        requires claim { is_claim self.now.bound found.entry.claim ≡ true }
+        ensures { Adds cells.old cells.new (triangle_part (C.meaning cells.old.cohort.now) valued self.now.entries found.number found.entry) }
     {
-        let Some(entry) = self.entry(number) else {
-            return;
-        };
-        let Some(claim_days) = self.claim_days(entry.claim) else {
+        let Some(claim_days) = self.claim_days(found.entry.claim) else {
             return;
         };
         let placing = Placing { valued, claim_days };
-        if entry.is_opening() {
+        if found.entry.is_opening() {
             cells.add_count(placing, Direction::Added);
-        } else if entry.is_movement() && !self.is_replaced(number) {
-            let kind = self.kind(number);
-            cells.add_terms(placing, Direction::Added, kind, terms_of(entry.content));
+        } else if found.entry.is_movement() && !self.is_replaced(found.number) {
+            let kind = self.kind(found.number);
+            let terms = terms_of(found.entry.content);
+            cells.add_terms(placing, Direction::Added, kind, terms);
         }
     }
 
@@ -110,9 +106,8 @@ impl<'a, R: Register> KnownEntries<'a, R> {
     pub(crate) fn add_triangle<C: Cohort>(&self, cells: &mut Cells<'_, C>, valued: Option<Day>)
         ensures { Adds cells.old cells.new (triangle (C.meaning cells.old.cohort.now) valued self.now.entries) }
     {
-        // By number and not by the register's iterator: only the number's test shows an entry to be one of these.
-        for before in 0..self.tables.count {
-            self.add_part(cells, valued, before + 1);
+        for found in all_entries(self.register).take(self.tables.count as usize) {
+            self.add_part(cells, valued, found);
         }
     }
 }

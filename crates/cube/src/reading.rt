@@ -53,6 +53,7 @@ pub fn stands<R: Register>(register: &R, number: u32) -> bool
 pub(crate) fn entry_among<R: Register>(register: &R, count: u32, number: u32) -> Option<Entry>
     ensures { result ≡ entry_in (take count (R.meaning register.now).entries) number }
 {
+    // No `then`: the register's answer is an Option already, and would be an Option within another.
     if number <= count {
         register.entry(number)
     } else {
@@ -66,7 +67,8 @@ pub(crate) fn kind_among<R: Register>(register: &R, count: u32, number: u32) -> 
     ensures { result ≡ kind_in (take count (R.meaning register.now).entries) number }
 {
     let mut at = number;
-    for step in 0..number {
+    // So many steps and no more: a bound ends the walk, also over entries that name one another in a circle.
+    'chain: for _ in 0..number {
         let entry = entry_among(register, count, at)?;
         match entry.content {
             Content::Payment(_) => return Some(MovementKind::Paid),

@@ -20,7 +20,7 @@ use values::claim_days::ClaimDays;
 use values::cohort::Cohort;
 use values::day::Day;
 
-// The fault, where there is one.
+// The fault, where there is one: the one place where a test and a fault become a Result.
 pub(super) fn refused_if(test: bool, fault: CallFault) -> Result<(), CallFault>
     ensures { result ≡ refused_if test fault }
 {

@@ -135,14 +135,13 @@ impl<R: Register, C: Cohort> Cube<R, C> {
         ensures whole { MatchResult result (λ answers. vec_len answers ≡ length row.now) (λ stopped. vec_len stopped.answers ≤ length row.now) }
         ensures ran { MatchResult result (λ answers. Ran (desk_of R.meaning C.meaning self.old sheet.old drawer.old.items) row.now answers.items (desk_of R.meaning C.meaning self.new sheet.new drawer.new.items)) (λ stopped. Ran (desk_of R.meaning C.meaning self.old sheet.old drawer.old.items) row.now stopped.answers.items (desk_of R.meaning C.meaning self.new sheet.new drawer.new.items)) }
     {
-        let Ok(mut answers) = Vec::with_capacity(heap, row.len()) else {
-            return Err(Stopped {
-                answers: Vec::new(heap),
-            });
-        };
+        let mut answers = Vec::with_capacity(heap, row.len()).map_err(|_| Stopped {
+            answers: Vec::new(heap),
+        })?;
         for request in row {
             match self.serve(heap, sheet, drawer, *request) {
                 Ok(answer) => answers.push_reserved(answer),
+                // An arm and no `map_err`: its closure would take the answers at each request, and not only at the last.
                 Err(_) => return Err(Stopped { answers }),
             }
         }
@@ -154,6 +153,7 @@ impl<R: Register, C: Cohort> Cube<R, C> {
         ensures { state_of R.meaning C.meaning self.new ≡ dropped_all (state_of R.meaning C.meaning self.old) drawer.items }
     {
         let mut left = drawer;
+        // No `for`: an iterator would let go what it has left, tickets cannot be let go, and the last is dropped first.
         while let Some(ticket) = left.pop() {
             let _ = self.drop_draft(ticket);
         }
