@@ -8,7 +8,7 @@ ghost use Rattle.register.specs.Paged.{paged_meaning, paged_sound, new_paged};
 use super::PagedRegister;
 use super::adding::{PAGE_SLOTS, free_slot, moved_on};
 use super::capacity::paged_capacity;
-use crate::adding::{is_claim, openings_of};
+use crate::adding::{check_add, is_claim, openings_of};
 use crate::bounded::BoundedList;
 use crate::cards::{ClaimCard, PageCard};
 use crate::entry::Entry;
@@ -149,13 +149,8 @@ impl Register for PagedRegister<'_> {
     }
 
     fn add(&mut self, entry: Entry) -> Result<u32, AddFault> {
-        if !is_claim(self.claim_bound(), entry.claim) {
-            return Err(AddFault::NoSuchClaim);
-        }
         let len = self.len();
-        if len == self.capacity() {
-            return Err(AddFault::Full);
-        }
+        check_add(self.claim_bound(), entry.claim, len, self.capacity())?;
         let number = len + 1;
         let card = self.card(entry.claim);
         let last_slot = self.place_of(card.last);

@@ -28,8 +28,8 @@ overflow_cast-used c = omega (arith, c.len-used.ensures, few_pages c.args.self.n
 pub free_slot-slot-requires-clause-free : goal.free_slot-slot-requires-clause-free
 free_slot-slot-requires-clause-free c =
     let r = c.args.self.now in
-    let is : is_claim (length r.claims.now) c.args.entry.claim ≡ true = search rules in
-    page_there r c.args.entry is (free r _ _ c.len-len.ensures c.capacity.ensures c.if-len-capacity.false) c.card-card.result c.card-card.ensures c.place_of-last_slot.result c.place_of-last_slot.ensures.value
+    let is : is_claim (length r.claims.now) c.args.entry.claim ≡ true = search (rules, c.in_ok-check_add.ensures.known) in
+    page_there r c.args.entry is (free r _ _ c.len-len.ensures c.capacity.ensures c.in_ok-check_add.ensures.free) c.card-card.result c.card-card.ensures c.place_of-last_slot.result c.place_of-last_slot.ensures.value
 
 pub free_slot-slot-requires-clause-few : goal.free_slot-slot-requires-clause-few
 free_slot-slot-requires-clause-few c = omega (arith, few_pages c.args.self.now)
@@ -37,15 +37,15 @@ free_slot-slot-requires-clause-few c = omega (arith, few_pages c.args.self.now)
 pub bounds-slots-slot : goal.bounds-slots-slot
 bounds-slots-slot c =
     let r = c.args.self.now in
-    let is : is_claim (length r.claims.now) c.args.entry.claim ≡ true = search rules in
-    let room = free r _ _ c.len-len.ensures c.capacity.ensures c.if-len-capacity.false in
+    let is : is_claim (length r.claims.now) c.args.entry.claim ≡ true = search (rules, c.in_ok-check_add.ensures.known) in
+    let room = free r _ _ c.len-len.ensures c.capacity.ensures c.in_ok-check_add.ensures.free in
     omega (arith, slot_in r c.args.entry is room c.card-card.result c.card-card.ensures c.place_of-last_slot.result c.place_of-last_slot.ensures.value, c.free_slot-slot.ensures.slot)
 
 pub overflow_cast-slot : goal.overflow_cast-slot
 overflow_cast-slot c =
     let r = c.args.self.now in
-    let is : is_claim (length r.claims.now) c.args.entry.claim ≡ true = search rules in
-    let room = free r _ _ c.len-len.ensures c.capacity.ensures c.if-len-capacity.false in
+    let is : is_claim (length r.claims.now) c.args.entry.claim ≡ true = search (rules, c.in_ok-check_add.ensures.known) in
+    let room = free r _ _ c.len-len.ensures c.capacity.ensures c.in_ok-check_add.ensures.free in
     omega (arith, slot_in r c.args.entry is room c.card-card.result c.card-card.ensures c.place_of-last_slot.result c.place_of-last_slot.ensures.value, c.free_slot-slot.ensures.slot)
 
 pub overflow_add-opened : goal.overflow_add-opened
@@ -56,8 +56,8 @@ overflow_add-opened c =
 pub invariant_of-self : goal.invariant_of-self
 invariant_of-self c =
     let r = c.args.self.now in
-    let is : is_claim (length r.claims.now) c.args.entry.claim ≡ true = search rules in
-    let room = free r _ _ c.len-len.ensures c.capacity.ensures c.if-len-capacity.false in
+    let is : is_claim (length r.claims.now) c.args.entry.claim ≡ true = search (rules, c.in_ok-check_add.ensures.known) in
+    let room = free r _ _ c.len-len.ensures c.capacity.ensures c.in_ok-check_add.ensures.free in
     let number : c.len-len.result + 1 ≡ length r.places.items + 1 = omega (arith, c.len-len.ensures, long r) in
     let pushed = push_fits r.places.room r.places.items _ _ _ (omega (arith, room)) c.push.ensures.answer c.push.ensures.items in
     let k = kept r c.args.entry is room c.card-card.result c.card-card.ensures c.place_of-last_slot.result c.place_of-last_slot.ensures.value
@@ -90,8 +90,8 @@ accepted m e is other = cond-true _ _ _ is ∙ cond-false _ _ _ (ne_eqb (length 
 pub returns-clause-after : goal.returns-clause-after
 returns-clause-after c =
     let r = c.args.self.now in
-    let is : is_claim (length r.claims.now) c.args.entry.claim ≡ true = search rules in
-    let room = free r _ _ c.len-len.ensures c.capacity.ensures c.if-len-capacity.false in
+    let is : is_claim (length r.claims.now) c.args.entry.claim ≡ true = search (rules, c.in_ok-check_add.ensures.known) in
+    let room = free r _ _ c.len-len.ensures c.capacity.ensures c.in_ok-check_add.ensures.free in
     let number : c.len-len.result + 1 ≡ length r.places.items + 1 = omega (arith, c.len-len.ensures, long r) in
     let pushed = push_fits r.places.room r.places.items _ _ _ (omega (arith, room)) c.push.ensures.answer c.push.ensures.items in
     let k = kept r c.args.entry is room c.card-card.result c.card-card.ensures c.place_of-last_slot.result c.place_of-last_slot.ensures.value
@@ -99,4 +99,4 @@ returns-clause-after c =
     number c.len-used.ensures c.free_slot-slot.ensures.slot c.free_slot-slot.ensures.pages c.moved_on.ensures pushed in
     let claims = length-set r.claims.now (c.args.entry.claim - 1) c.moved_on.result in
     let capacity = same_capacity c.free_slot-slot.ensures.room (length-set r.slots.now c.free_slot-slot.result (record { number = c.len-len.result + 1; entry = c.args.entry })) claims c.push.ensures.room in
-    same_meaning k.1 capacity claims ∙ sym (accepted (paged_meaning r) c.args.entry is (λ full. c.if-len-capacity.false (c.len-len.ensures ∙ full ∙ sym c.capacity.ensures)))
+    same_meaning k.1 capacity claims ∙ sym (accepted (paged_meaning r) c.args.entry is (λ full. c.in_ok-check_add.ensures.free (c.len-len.ensures ∙ full ∙ sym c.capacity.ensures)))
