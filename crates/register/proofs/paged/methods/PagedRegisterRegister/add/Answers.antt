@@ -63,18 +63,10 @@ invariant_of-self c =
     let k = kept r c.args.entry is room c.card-card.result c.card-card.ensures c.place_of-last_slot.result c.place_of-last_slot.ensures.value
     (c.len-len.result + 1) c.len-used.result c.free_slot-slot.result c.free_slot-slot.new.pages.items c.moved_on.result c.push.new.self.items
     number c.len-used.ensures c.free_slot-slot.ensures.slot c.free_slot-slot.ensures.pages c.moved_on.ensures pushed in
-    let l = k.0 in
     let claims = length-set r.claims.now (c.args.entry.claim - 1) c.moved_on.result in
     let capacity = same_capacity c.free_slot-slot.ensures.room (length-set r.slots.now c.free_slot-slot.result (record { number = c.len-len.result + 1; entry = c.args.entry })) claims c.push.ensures.room in
     let more = ap openings_in k.1 ∙ openings_push (paged_meaning r).entries c.args.entry in record {
-      numbered = l.numbered;
-      within = l.within;
-      linked = l.linked;
-      lasts = l.lasts;
-      spares = l.spares;
-      counted = l.counted;
-      fit = l.fit;
-      known = l.known;
+      laid = k.0;
       few = omega (arith, claims, r.few);
       spacious = omega (arith, ap length pushed, length_push r.places.items c.free_slot-slot.result, capacity, room);
       openings = omega (arith, more, r.openings, c.openings_of.ensures);
