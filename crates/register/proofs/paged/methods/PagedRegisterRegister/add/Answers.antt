@@ -1,4 +1,4 @@
-use Rattle.std.proofs.Common.{◌≡◌, ℕ, ◌+◌, ◌-◌, ◌<◌, true, List, [], ◌∷◌, ◌++◌, length, sym, ap, ◌∙◌, arith, rules}
+use Rattle.std.proofs.Common.{◌≡◌, ℕ, ◌+◌, ◌-◌, ◌<◌, true, List, [], ◌∷◌, ◌++◌, length, sym, ap, ◌∙◌, subst, arith, rules}
 use Rattle.std.proofs.lemmas.List.{length-map, length_push, length-set}
 use Rattle.std.proofs.lemmas.Bool.{cond-true, cond-false, ne_eqb}
 use Rattle.register.specs.declared.entry.Entry.{Entry}
@@ -11,16 +11,15 @@ use Rattle.register.proofs.Booked.{openings_le, openings_push, push_fits}
 use Rattle.register.proofs.Kept.{few_pages, kept, page_there, slot_in}
 use Rattle.register.proofs.paged.methods.PagedRegisterRegister.add.Goals as goal
 
-module _ (r : PagedRegister) where
-  long : length (paged_meaning r).entries ≡ length r.places.items
-  long = length-map r.places.items (λ s. (slot_at r.slots.now s).entry)
-
-  -- where it is not full, an entry more fits
-  free : (len capacity : ℕ) → len ≡ length (paged_meaning r).entries → capacity ≡ (paged_meaning r).capacity → (len ≡ capacity → ⊥) → length r.places.items < (paged_meaning r).capacity
-  free len capacity a b other = omega (arith, long, r.spacious)
+long : (r : PagedRegister) → length (paged_meaning r).entries ≡ length r.places.items
+long r = length-map r.places.items (λ s. (slot_at r.slots.now s).entry)
 
 same_capacity : {a b c d a' b' c' d' : ℕ} → a ≡ a' → b ≡ b' → c ≡ c' → d ≡ d' → paged_capacity a b c d ≡ paged_capacity a' b' c' d'
 same_capacity p q s t = simp (p, q, s, t)
+
+-- what the check lets through: a claim of the register, and an entry more fits
+passed : (r : PagedRegister) (e : Entry) (bound len capacity : ℕ) → bound ≡ length r.claims.now → len ≡ length (paged_meaning r).entries → capacity ≡ (paged_meaning r).capacity → is_claim bound e.claim ≡ true → (len ≡ capacity → ⊥) → (is_claim (length r.claims.now) e.claim ≡ true) × (length r.places.items < (paged_meaning r).capacity)
+passed r e bound len capacity a b d is other = (subst (λ x. is_claim x e.claim ≡ true) a is, omega (arith, long r, b, d, r.spacious, other))
 
 pub overflow_cast-used : goal.overflow_cast-used
 overflow_cast-used c = omega (arith, c.len-used.ensures, few_pages c.args.self.now)
@@ -28,8 +27,8 @@ overflow_cast-used c = omega (arith, c.len-used.ensures, few_pages c.args.self.n
 pub free_slot-slot-requires-clause-free : goal.free_slot-slot-requires-clause-free
 free_slot-slot-requires-clause-free c =
     let r = c.args.self.now in
-    let is : is_claim (length r.claims.now) c.args.entry.claim ≡ true = search (rules, c.in_ok-check_add.ensures.known) in
-    page_there r c.args.entry is (free r _ _ c.len-len.ensures c.capacity.ensures c.in_ok-check_add.ensures.free) c.card-card.result c.card-card.ensures c.place_of-last_slot.result c.place_of-last_slot.ensures.value
+    let ok = passed r c.args.entry _ _ _ c.claim_bound.ensures c.len-len.ensures c.capacity.ensures c.in_ok-check_add.ensures.known c.in_ok-check_add.ensures.free in
+    page_there r c.args.entry ok.0 ok.1 c.card-card.result c.card-card.ensures c.place_of-last_slot.result c.place_of-last_slot.ensures.value
 
 pub free_slot-slot-requires-clause-few : goal.free_slot-slot-requires-clause-few
 free_slot-slot-requires-clause-few c = omega (arith, few_pages c.args.self.now)
@@ -37,16 +36,14 @@ free_slot-slot-requires-clause-few c = omega (arith, few_pages c.args.self.now)
 pub bounds-slots-slot : goal.bounds-slots-slot
 bounds-slots-slot c =
     let r = c.args.self.now in
-    let is : is_claim (length r.claims.now) c.args.entry.claim ≡ true = search (rules, c.in_ok-check_add.ensures.known) in
-    let room = free r _ _ c.len-len.ensures c.capacity.ensures c.in_ok-check_add.ensures.free in
-    omega (arith, slot_in r c.args.entry is room c.card-card.result c.card-card.ensures c.place_of-last_slot.result c.place_of-last_slot.ensures.value, c.free_slot-slot.ensures.slot)
+    let ok = passed r c.args.entry _ _ _ c.claim_bound.ensures c.len-len.ensures c.capacity.ensures c.in_ok-check_add.ensures.known c.in_ok-check_add.ensures.free in
+    omega (arith, slot_in r c.args.entry ok.0 ok.1 c.card-card.result c.card-card.ensures c.place_of-last_slot.result c.place_of-last_slot.ensures.value, c.free_slot-slot.ensures.slot)
 
 pub overflow_cast-slot : goal.overflow_cast-slot
 overflow_cast-slot c =
     let r = c.args.self.now in
-    let is : is_claim (length r.claims.now) c.args.entry.claim ≡ true = search (rules, c.in_ok-check_add.ensures.known) in
-    let room = free r _ _ c.len-len.ensures c.capacity.ensures c.in_ok-check_add.ensures.free in
-    omega (arith, slot_in r c.args.entry is room c.card-card.result c.card-card.ensures c.place_of-last_slot.result c.place_of-last_slot.ensures.value, c.free_slot-slot.ensures.slot)
+    let ok = passed r c.args.entry _ _ _ c.claim_bound.ensures c.len-len.ensures c.capacity.ensures c.in_ok-check_add.ensures.known c.in_ok-check_add.ensures.free in
+    omega (arith, slot_in r c.args.entry ok.0 ok.1 c.card-card.result c.card-card.ensures c.place_of-last_slot.result c.place_of-last_slot.ensures.value, c.free_slot-slot.ensures.slot)
 
 pub overflow_add-opened : goal.overflow_add-opened
 overflow_add-opened c =
@@ -56,11 +53,10 @@ overflow_add-opened c =
 pub invariant_of-self : goal.invariant_of-self
 invariant_of-self c =
     let r = c.args.self.now in
-    let is : is_claim (length r.claims.now) c.args.entry.claim ≡ true = search (rules, c.in_ok-check_add.ensures.known) in
-    let room = free r _ _ c.len-len.ensures c.capacity.ensures c.in_ok-check_add.ensures.free in
+    let ok = passed r c.args.entry _ _ _ c.claim_bound.ensures c.len-len.ensures c.capacity.ensures c.in_ok-check_add.ensures.known c.in_ok-check_add.ensures.free in
     let number : c.len-len.result + 1 ≡ length r.places.items + 1 = omega (arith, c.len-len.ensures, long r) in
-    let pushed = push_fits r.places.room r.places.items _ _ _ (omega (arith, room)) c.push.ensures.answer c.push.ensures.items in
-    let k = kept r c.args.entry is room c.card-card.result c.card-card.ensures c.place_of-last_slot.result c.place_of-last_slot.ensures.value
+    let pushed = push_fits r.places.room r.places.items _ _ _ (omega (arith, ok.1)) c.push.ensures.answer c.push.ensures.items in
+    let k = kept r c.args.entry ok.0 ok.1 c.card-card.result c.card-card.ensures c.place_of-last_slot.result c.place_of-last_slot.ensures.value
     (c.len-len.result + 1) c.len-used.result c.free_slot-slot.result c.free_slot-slot.new.pages.items c.moved_on.result c.push.new.self.items
     number c.len-used.ensures c.free_slot-slot.ensures.slot c.free_slot-slot.ensures.pages c.moved_on.ensures pushed in
     let claims = length-set r.claims.now (c.args.entry.claim - 1) c.moved_on.result in
@@ -68,7 +64,7 @@ invariant_of-self c =
     let more = ap openings_in k.1 ∙ openings_push (paged_meaning r).entries c.args.entry in record {
       laid = k.0;
       few = omega (arith, claims, r.few);
-      spacious = omega (arith, ap length pushed, length_push r.places.items c.free_slot-slot.result, capacity, room);
+      spacious = omega (arith, ap length pushed, length_push r.places.items c.free_slot-slot.result, capacity, ok.1);
       openings = omega (arith, more, r.openings, c.openings_of.ensures);
     }
 
@@ -82,13 +78,12 @@ accepted m e is other = cond-true _ _ _ is ∙ cond-false _ _ _ (ne_eqb (length 
 pub returns-clause-after : goal.returns-clause-after
 returns-clause-after c =
     let r = c.args.self.now in
-    let is : is_claim (length r.claims.now) c.args.entry.claim ≡ true = search (rules, c.in_ok-check_add.ensures.known) in
-    let room = free r _ _ c.len-len.ensures c.capacity.ensures c.in_ok-check_add.ensures.free in
+    let ok = passed r c.args.entry _ _ _ c.claim_bound.ensures c.len-len.ensures c.capacity.ensures c.in_ok-check_add.ensures.known c.in_ok-check_add.ensures.free in
     let number : c.len-len.result + 1 ≡ length r.places.items + 1 = omega (arith, c.len-len.ensures, long r) in
-    let pushed = push_fits r.places.room r.places.items _ _ _ (omega (arith, room)) c.push.ensures.answer c.push.ensures.items in
-    let k = kept r c.args.entry is room c.card-card.result c.card-card.ensures c.place_of-last_slot.result c.place_of-last_slot.ensures.value
+    let pushed = push_fits r.places.room r.places.items _ _ _ (omega (arith, ok.1)) c.push.ensures.answer c.push.ensures.items in
+    let k = kept r c.args.entry ok.0 ok.1 c.card-card.result c.card-card.ensures c.place_of-last_slot.result c.place_of-last_slot.ensures.value
     (c.len-len.result + 1) c.len-used.result c.free_slot-slot.result c.free_slot-slot.new.pages.items c.moved_on.result c.push.new.self.items
     number c.len-used.ensures c.free_slot-slot.ensures.slot c.free_slot-slot.ensures.pages c.moved_on.ensures pushed in
     let claims = length-set r.claims.now (c.args.entry.claim - 1) c.moved_on.result in
     let capacity = same_capacity c.free_slot-slot.ensures.room (length-set r.slots.now c.free_slot-slot.result (record { number = c.len-len.result + 1; entry = c.args.entry })) claims c.push.ensures.room in
-    same_meaning k.1 capacity claims ∙ sym (accepted (paged_meaning r) c.args.entry is (λ full. c.in_ok-check_add.ensures.free (c.len-len.ensures ∙ full ∙ sym c.capacity.ensures)))
+    same_meaning k.1 capacity claims ∙ sym (accepted (paged_meaning r) c.args.entry ok.0 (λ full. c.in_ok-check_add.ensures.free (c.len-len.ensures ∙ full ∙ sym c.capacity.ensures)))
