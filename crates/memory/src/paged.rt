@@ -7,7 +7,7 @@ ghost use Rattle.register.specs.Paged.{paged_meaning};
 use crate::pages::pages_needed;
 use register::cards::{ClaimCard, PageCard};
 use register::entry::Entry;
-use register::limits::{MOST_CLAIMS, MOST_ENTRIES};
+use register::limits::{MOST_CLAIMS, MOST_ENTRIES, PAGE_SLOTS};
 use register::numbered::NumberedEntry;
 use register::paged::PagedRegister;
 use std::alloc::{AllocError, Global};
@@ -46,7 +46,7 @@ impl PagedMemory {
         };
         Ok(PagedMemory {
             page_cards: vec![in heap; PageCard { next: LEFTOVER }; pages]?,
-            slots: vec![in heap; NumberedEntry { number, entry }; 16 * pages]?,
+            slots: vec![in heap; NumberedEntry { number, entry }; PAGE_SLOTS * pages]?,
             claim_cards: vec![in heap; card; claims]?,
             places: vec![in heap; LEFTOVER; entries]?,
         })

@@ -7,7 +7,7 @@ use register::register::Register;
 use std::test::Fail;
 use values::day::Day;
 
-// What lies in memory before.
+// What lies in memory before: that of `samples` again, since the parts do not stand on what programs make their books from.
 fn old_entry() -> Result<Entry, Fail> {
     Ok(Entry {
         booked: Day::new(19_991_231)?,

@@ -6,7 +6,6 @@ use Rattle.register.specs.declared.cards.PageCard.{PageCard}
 use Rattle.register.specs.declared.entry.Entry.{Entry}
 use Rattle.register.specs.declared.numbered.NumberedEntry.{NumberedEntry}
 use Rattle.register.specs.declared.paged.PagedRegister.{PagedRegister}
-use Rattle.register.specs.Paged.{laid_of}
 use Rattle.register.specs.Pages.{Laid, card_of, place_of, entries_of, paged_capacity, free_slot, pages_after, card_after}
 use Rattle.register.specs.Registers.{is_claim}
 use Rattle.register.proofs.Laying.{is_claim_lem}
@@ -39,7 +38,7 @@ module _ (r : PagedRegister) (e : Entry) where
           let at = is_claim_lem (length r.claims.now) e.claim is in
           subst (λ s. Holds (pages_after pages card s) (card_after (length pages) card (length places + 1)) (free_slot pages card s)) (sym last_is)
           (subst (λ k. Holds (pages_after pages k (place_of places k.last)) (card_after (length pages) k (length places + 1)) (free_slot pages k (place_of places k.last))) (sym card_is)
-          (added pages r.slots.now r.claims.now places (laid_of r) e at.0 at.1 r.pages.room r.places.room free))
+          (added pages r.slots.now r.claims.now places r.laid e at.0 at.1 r.pages.room r.places.room free))
 
       -- the slot lies in memory, and its number is small
       pub slot_in : (free_slot pages card last_slot < length r.slots.now) × (free_slot pages card last_slot < 2 ^ 32)
@@ -58,7 +57,7 @@ module _ (r : PagedRegister) (e : Entry) where
       pub page_there : card.spare ≡ 0 → length pages < r.pages.room
       page_there none =
           let at = is_claim_lem (length r.claims.now) e.claim is in
-          omega (arith, page_free pages r.slots.now r.claims.now places (laid_of r) e.claim r.pages.room r.places.room at.0 at.1 (ap (λ k. k.spare) (sym card_is) ∙ none) free)
+          omega (arith, page_free pages r.slots.now r.claims.now places r.laid e.claim r.pages.room r.places.room at.0 at.1 (ap (λ k. k.spare) (sym card_is) ∙ none) free)
 
       -- the parts as the code leaves them
       pub kept : (number used slot : ℕ) (pages' : List PageCard) (card' : ClaimCard) (places' : List ℕ) → number ≡ length places + 1 → used ≡ length pages → slot ≡ free_slot pages card last_slot → pages' ≡ pages_after pages card last_slot → card' ≡ card_after used card number → places' ≡ places ++ (slot ∷ []) → Laid pages' (set r.slots.now slot (record { number = number; entry = e })) (set r.claims.now (e.claim - 1) card') places' × (entries_of (set r.slots.now slot (record { number = number; entry = e })) places' ≡ entries_of r.slots.now places ++ (e ∷ []))
@@ -74,4 +73,4 @@ module _ (r : PagedRegister) (e : Entry) where
 
 -- pages in use are few
 pub few_pages : (r : PagedRegister) → 16 * length r.pages.items ≤ 65536 + 15 * 8192
-few_pages r = omega (arith, few_slots r.pages.items r.slots.now r.claims.now r.places.items (laid_of r), r.few, r.spacious)
+few_pages r = omega (arith, few_slots r.pages.items r.slots.now r.claims.now r.places.items r.laid, r.few, r.spacious)

@@ -3,7 +3,7 @@ use Rattle.std.specs.Prelude.{ℕ, min, [], length}
 use Rattle.std.proofs.Common.{arith}
 use Rattle.std.proofs.lemmas.List.{length-map}
 use Rattle.register.specs.declared.paged.PagedRegister.{PagedRegister}
-use Rattle.register.specs.Pages.{Laid, entries_of, paged_capacity, slot_at}
+use Rattle.register.specs.Pages.{entries_of, paged_capacity, slot_at}
 use Rattle.register.specs.Registers.{Meaning, Sound}
 
 -- the entries are those at the places, in the order of their numbers
@@ -22,23 +22,10 @@ new_paged page_cards slots claim_cards places = record {
   bound = min claim_cards 8192;
 }
 
--- the facts that a paged register keeps
-pub laid_of : (r : PagedRegister) → Laid r.pages.items r.slots.now r.claims.now r.places.items
-laid_of r = record {
-  numbered = r.numbered;
-  within = r.within;
-  linked = r.linked;
-  lasts = r.lasts;
-  spares = r.spares;
-  counted = r.counted;
-  fit = r.fit;
-  known = r.known;
-}
-
 pub paged_sound : (r : PagedRegister) → Sound (paged_meaning r)
 paged_sound r = record {
   few_entries = omega arith;
   few_claims = r.few;
   room = omega (arith, length-map r.places.items (λ s. (slot_at r.slots.now s).entry), r.spacious);
-  claims = r.known;
+  claims = r.laid.known;
 }

@@ -22,6 +22,7 @@ impl fmt::Display for CapacityError {
 impl Error for CapacityError {}
 
 // The first `len` of the lent slots, in order; what lies behind them is free.
+// No `Vec`: it is a rule of the project that registers and sheets lie in memory that the caller lends, with no heap.
 #[derive(Drop)]
 pub struct BoundedList<'a, T> {
     slots: &'a mut [T],
@@ -95,6 +96,7 @@ impl<'a, T: Copy> BoundedList<'a, T> {
         ensures items { self.new.items ≡ slice_set self.old.items index item }
         ensures room { self.new.room ≡ self.old.room }
     {
+        // no `get_mut(index)?` of the first `len`: what is left of the slots after that loan has no name in a proof
         if index < self.len {
             Some(mem::replace(&mut self.slots[index], item))
         } else {

@@ -1,7 +1,7 @@
 // The paged register: a register that keeps the entries of a claim together.
 ghost use Rattle.std.specs.Prelude.{◌≡◌, ◌≤◌, length};
 ghost use Rattle.register.specs.Entries.{openings_in};
-ghost use Rattle.register.specs.Pages.{Numbered, Within, Linked, Lasts, Spares, Counted, Fit, Known, entries_of, paged_capacity};
+ghost use Rattle.register.specs.Pages.{Laid, entries_of, paged_capacity};
 
 use crate::bounded::BoundedList;
 use crate::cards::{ClaimCard, PageCard};
@@ -21,14 +21,7 @@ pub struct PagedRegister<'a> {
     claims: &'a mut [ClaimCard],
     places: BoundedList<'a, u32>,
     opened: u32,
-    ghost numbered: { Numbered pages.items slots.now claims.now places.items },
-    ghost within: { Within pages.items slots.now claims.now places.items },
-    ghost linked: { Linked pages.items slots.now claims.now places.items },
-    ghost lasts: { Lasts pages.items slots.now claims.now places.items },
-    ghost spares: { Spares pages.items slots.now claims.now places.items },
-    ghost counted: { Counted pages.items slots.now claims.now places.items },
-    ghost fit: { Fit pages.items slots.now claims.now places.items },
-    ghost known: { Known pages.items slots.now claims.now places.items },
+    ghost laid: { Laid pages.items slots.now claims.now places.items },
     ghost few: { length claims.now ≤ 8192 },
     ghost spacious: { length places.items ≤ paged_capacity pages.room (length slots.now) (length claims.now) places.room },
     ghost openings: { opened ≡ openings_in (entries_of slots.now places.items) },

@@ -10,6 +10,7 @@ use values::fault::ValueFault;
 
 impl Terms {
     // The terms with these numbers, or the fault of the first that is no day or no amount.
+    // Its parameters are two bare numbers, since no terms stand before it makes them.
     pub fn new(effective: u64, cents: i64) -> Result<Terms, ValueFault>
         ensures { result ≡ new_terms effective cents }
     {

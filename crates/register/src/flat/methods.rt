@@ -4,7 +4,7 @@ ghost use Rattle.std.specs.List.{position};
 ghost use Rattle.register.specs.Flat.{flat_meaning, flat_sound, new_flat};
 
 use super::FlatLog;
-use crate::adding::{is_claim, openings_of};
+use crate::adding::{check_add, openings_of};
 use crate::bounded::BoundedList;
 use crate::entry::Entry;
 use crate::fault::AddFault;
@@ -67,13 +67,8 @@ impl Register for FlatLog<'_> {
     }
 
     fn add(&mut self, entry: Entry) -> Result<u32, AddFault> {
-        if !is_claim(self.bound, entry.claim) {
-            return Err(AddFault::NoSuchClaim);
-        }
         let len = self.len();
-        if len == self.capacity() {
-            return Err(AddFault::Full);
-        }
+        check_add(self.bound, entry.claim, len, self.capacity())?;
         self.opened += openings_of(entry);
         self.entries.push(entry).unwrap();
         Ok(len + 1)

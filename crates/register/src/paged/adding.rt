@@ -4,9 +4,7 @@ ghost use Rattle.register.specs.Pages.{free_slot, pages_after, card_after};
 
 use crate::bounded::BoundedList;
 use crate::cards::{ClaimCard, PageCard};
-
-// The slots of a page: enough for most claims' whole life, few enough that a claim with one entry wastes little.
-pub const PAGE_SLOTS: usize = 16;
+use crate::limits::PAGE_SLOTS;
 
 // The slot for the next entry of a claim, by its card and the slot of its last entry. A page is taken into use, and linked
 // to the claim's page before it, where that one is full or there is none.
@@ -40,6 +38,10 @@ pub(super) fn moved_on(card: ClaimCard, pages: u32, number: u32) -> ClaimCard
     ClaimCard {
         first: if card.last == 0 { pages } else { card.first },
         last: number,
-        spare: if card.spare == 0 { 15 } else { card.spare - 1 },
+        spare: if card.spare == 0 {
+            PAGE_SLOTS as u32 - 1
+        } else {
+            card.spare - 1
+        },
     }
 }

@@ -2,8 +2,7 @@
 ghost use Rattle.std.specs.Prelude.{◌≡◌};
 ghost use Rattle.register.specs.Pages.{paged_capacity};
 
-use super::adding::PAGE_SLOTS;
-use crate::limits::MOST_ENTRIES;
+use crate::limits::{MOST_ENTRIES, PAGE_SLOTS};
 
 // A claim's last page may have up to 15 slots that no other claim can use, so so many are set aside for each claim.
 pub fn paged_capacity(page_cards: usize, slots: usize, claim_cards: usize, places: usize) -> u32

@@ -6,14 +6,14 @@ ghost use Rattle.register.specs.Registers.{is_claim};
 ghost use Rattle.register.specs.Paged.{paged_meaning, paged_sound, new_paged};
 
 use super::PagedRegister;
-use super::adding::{PAGE_SLOTS, free_slot, moved_on};
+use super::adding::{free_slot, moved_on};
 use super::capacity::paged_capacity;
-use crate::adding::{is_claim, openings_of};
+use crate::adding::{check_add, is_claim, openings_of};
 use crate::bounded::BoundedList;
 use crate::cards::{ClaimCard, PageCard};
 use crate::entry::Entry;
 use crate::fault::AddFault;
-use crate::limits::MOST_CLAIMS;
+use crate::limits::{MOST_CLAIMS, PAGE_SLOTS};
 use crate::numbered::NumberedEntry;
 use crate::register::Register;
 
@@ -39,7 +39,7 @@ impl<'a> PagedRegister<'a> {
         }
     }
 
-    // The slot of the entry with a number; 0 where there is none.
+    // The slot of the entry with a number, entry 1's for 0, and 0 past the last: no `Option`, since no caller uses it there.
     fn place_of(&self, number: u32) -> usize
         ensures value { result ≡ place_of self.now.places.items number }
         ensures small { result < 2 ^ 32 }
@@ -91,10 +91,7 @@ impl<'a> PagedRegister<'a> {
         if slot % PAGE_SLOTS < PAGE_SLOTS - 1 {
             return slot + 1;
         }
-        let page = self
-            .pages
-            .get(slot / PAGE_SLOTS)
-            .unwrap_or(PageCard::default());
+        let page = self.pages.get(slot / PAGE_SLOTS).unwrap_or_default();
         PAGE_SLOTS * page.next as usize
     }
 }
@@ -149,13 +146,8 @@ impl Register for PagedRegister<'_> {
     }
 
     fn add(&mut self, entry: Entry) -> Result<u32, AddFault> {
-        if !is_claim(self.claim_bound(), entry.claim) {
-            return Err(AddFault::NoSuchClaim);
-        }
         let len = self.len();
-        if len == self.capacity() {
-            return Err(AddFault::Full);
-        }
+        check_add(self.claim_bound(), entry.claim, len, self.capacity())?;
         let number = len + 1;
         let card = self.card(entry.claim);
         let last_slot = self.place_of(card.last);

@@ -4,7 +4,7 @@ use Rattle.register.specs.declared.cards.ClaimCard.{ClaimCard}
 use Rattle.register.specs.declared.numbered.NumberedEntry.{NumberedEntry}
 use Rattle.register.specs.declared.paged.PagedRegister.{PagedRegister}
 use Rattle.register.specs.Entries.{is_entry_of}
-use Rattle.register.specs.Paged.{laid_of, paged_meaning}
+use Rattle.register.specs.Paged.{paged_meaning}
 use Rattle.register.specs.Pages.{card_of, claim_of, last_of, next_slot, place_of, slot_at}
 use Rattle.register.specs.Registers.{is_claim}
 use Rattle.register.proofs.Growing.{few_slots}
@@ -19,25 +19,25 @@ module _ (r : PagedRegister) (claim after : ℕ) where
   -- slots that are reached lie in memory, and are few enough to count on from
   small : (slot : ℕ) → At slot → (slot < length r.slots.now) × (slot + 1 < 2 ^ 64)
   small slot at =
-      let within = reached_within r.slots.now r.places.items r.pages.items r.claims.now (laid_of r) claim after slot at in
-      let few = few_slots r.pages.items r.slots.now r.claims.now r.places.items (laid_of r) in
-      (omega (arith, within, r.fit), omega (arith, within, few, r.few, r.spacious))
+      let within = reached_within r.slots.now r.places.items r.pages.items r.claims.now r.laid claim after slot at in
+      let few = few_slots r.pages.items r.slots.now r.claims.now r.places.items r.laid in
+      (omega (arith, within, r.laid.fit), omega (arith, within, few, r.few, r.spacious))
 
   module _ (is : is_claim (length r.claims.now) claim ≡ true) (card : ClaimCard) (card_is : card ≡ card_of r.claims.now claim) where
     -- the number on a claim's card is that of its last entry
     last_number : card.last ≡ last_of (claim_of r.slots.now r.places.items) claim (length r.places.items)
-    last_number = let at = is_claim_lem (length r.claims.now) claim is in ap (λ x. x.last) card_is ∙ r.lasts claim at.0 at.1
+    last_number = let at = is_claim_lem (length r.claims.now) claim is in ap (λ x. x.last) card_is ∙ r.laid.lasts claim at.0 at.1
 
     module _ (more : after < card.last) where
       first_reached : (slot : ℕ) → slot ≡ cond (is_entry_of (paged_meaning r).entries claim after) (next_slot r.pages.items (place_of r.places.items after)) (16 * card.first) → At slot
       first_reached slot from =
           subst At (sym (from ∙ ap (λ x. cond (is_entry_of (paged_meaning r).entries claim after) (next_slot r.pages.items (place_of r.places.items after)) (16 * x.first)) card_is))
-          (reached_start r.slots.now r.places.items r.pages.items r.claims.now (laid_of r) claim after (omega (arith, last_number)))
+          (reached_start r.slots.now r.places.items r.pages.items r.claims.now r.laid claim after (omega (arith, last_number)))
 
       next_reached : (slot next : ℕ) (found : NumberedEntry) → At slot → found ≡ slot_at r.slots.now slot → found.number ≤ after → next ≡ next_slot r.pages.items slot → At next × (found.number < (slot_at r.slots.now next).number)
       next_reached slot next found at found_is early next_is =
           let number = ap (λ x. x.number) found_is in
-          let on = reached_on r.slots.now r.places.items r.pages.items r.claims.now (laid_of r) claim after slot at (omega (arith, number)) (omega (arith, last_number)) in
+          let on = reached_on r.slots.now r.places.items r.pages.items r.claims.now r.laid claim after slot at (omega (arith, number)) (omega (arith, last_number)) in
           subst (λ s. At s × (found.number < (slot_at r.slots.now s).number)) (sym next_is) (on.0, omega (arith, number, on.1))
 
 pub returns-then-not-is_claim : goal.returns-then-not-is_claim
@@ -45,7 +45,7 @@ returns-then-not-is_claim c =
     let r = c.args.self.now in
     let other : is_claim (length r.claims.now) c.args.claim ≡ false = search rules in
     sym
-    (no_claim r.slots.now r.places.items r.pages.items r.claims.now (laid_of r) c.args.claim c.args.after
+    (no_claim r.slots.now r.places.items r.pages.items r.claims.now r.laid c.args.claim c.args.after
     (λ a b. both_ways _ other (and_from _ _ (le-leb 1 c.args.claim a) (le-leb c.args.claim (length r.claims.now) b))))
 
 pub returns-then-card-after : goal.returns-then-card-after
@@ -53,7 +53,7 @@ returns-then-card-after c =
     let r = c.args.self.now in
     let is : is_claim (length r.claims.now) c.args.claim ≡ true = search rules in
     sym
-    (no_next r.slots.now r.places.items r.pages.items r.claims.now (laid_of r) c.args.claim c.args.after
+    (no_next r.slots.now r.places.items r.pages.items r.claims.now r.laid c.args.claim c.args.after
     (omega (arith, last_number r c.args.claim c.args.after is c.card-card.result c.card-card.ensures, c.if-card-after.true)))
 
 pub slot-found-requires : goal.slot-found-requires
