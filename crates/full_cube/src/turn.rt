@@ -135,16 +135,12 @@ impl Turn<'_> {
 
     // The requests of the turn in their order: one that is refused, one that is dropped, and the one for the next entry.
     pub fn requests(&mut self) -> Result<[Option<Request>; 3], ValueFault> {
-        let refused = if self.samples.random.below(REFUSED_EVERY) == 0 {
-            Some(self.refused()?)
-        } else {
-            None
-        };
-        let dropped = if self.samples.random.below(DROPPED_EVERY) == 0 {
-            self.dropped()
-        } else {
-            None
-        };
+        let refused = (self.samples.random.below(REFUSED_EVERY) == 0)
+            .then(|| self.refused())
+            .transpose()?;
+        let dropped = (self.samples.random.below(DROPPED_EVERY) == 0)
+            .then(|| self.dropped())
+            .flatten();
         let booking = Request {
             booked: self.progress.today,
             action: self.change()?,
