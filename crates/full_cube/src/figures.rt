@@ -38,7 +38,7 @@ pub struct SheetFigures {
     pub count: Figures,
 }
 
-// The figures of the cells of one measure.
+// The figures of the cells of one measure; of no cells 0 lies beyond, as 0 is their total.
 fn measure_figures(cells: &[i64]) -> Figures {
     Figures {
         total: total(cells).cast_signed(),

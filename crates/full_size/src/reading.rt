@@ -11,6 +11,7 @@ use register::register::Register;
 pub fn book_all<R: Register>(register: &mut R, book: &[Entry]) -> u64
     ensures { R.Register.meaning register.new ≡ booked (R.Register.meaning register.old) book.now }
 {
+    // a counter: adding alters the register, and a closure that alters what it captured tells the proof nothing
     let mut accepted = 0u64;
     for entry in book {
         if register.add(*entry).is_ok() {
