@@ -32,11 +32,7 @@ fn walk_claim<R: Register>(register: &R, claim: u32, start: Sums) -> Sums
 pub fn walk_claims<R: Register>(register: &R, last: u32, start: Sums) -> Sums
     ensures { result ≡ all_walked (R.Register.meaning register.now).entries last start }
 {
-    let mut sums = start;
-    for claim in 0..last {
-        sums = walk_claim(register, claim + 1, sums);
-    }
-    sums
+    (0..last).fold(start, |sums, claim| walk_claim(register, claim + 1, sums))
 }
 
 // Adds up all entries, number by number.
