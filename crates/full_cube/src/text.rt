@@ -100,6 +100,7 @@ impl fmt::Display for Line {
         )?;
         match self.answer {
             Ok(entry) => {
+                // the format has a 0 there
                 let entry = entry.unwrap_or(0);
                 write!(f, "{entry}")
             }

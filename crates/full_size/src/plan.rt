@@ -21,6 +21,7 @@ pub struct NoKind;
 impl FromStr for Kind {
     type Err = NoKind;
 
+    // by arms, since each word stands in this place alone
     fn from_str(word: &str) -> Result<Kind, NoKind> {
         match word {
             "flat" => Ok(Kind::Flat),
