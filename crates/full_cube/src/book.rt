@@ -5,7 +5,7 @@ use anyhow::Context;
 use samples::busiest::Busiest;
 use samples::random::Random;
 use samples::samples::{DAYS_OF_YEAR, Samples};
-use samples::size::BookSize;
+use samples::size::{BOOK_DAYS, BookSize};
 use std::alloc::Global;
 use values::fault::ValueFault;
 
@@ -17,8 +17,6 @@ const START: Samples = Samples {
 };
 // Entries are booked from the second year on.
 const FIRST_BOOKED: u64 = DAYS_OF_YEAR;
-// They are booked over ten years.
-const BOOKED_DAYS: u32 = 3360;
 
 // A claim that is opened today, and the request for it.
 fn opening(samples: &mut Samples, progress: Progress) -> Result<(Claim, Request), ValueFault> {
@@ -43,8 +41,8 @@ pub fn large_book(heap: Global, size: BookSize) -> anyhow::Result<Vec<Request>> 
     let mut claims: Vec<Claim> = Vec::new(heap);
     let mut book = Vec::new(heap);
     for index in 0..size.entries {
-        let count = FIRST_BOOKED + size.come_by(index, BOOKED_DAYS);
-        let opened = claims.last().map_or(0, |last| last.number);
+        let count = FIRST_BOOKED + size.come_by(index, BOOK_DAYS);
+        let opened = u32::try_from(claims.len())?;
         let progress = Progress {
             entries: index,
             claims: opened,
@@ -56,6 +54,7 @@ pub fn large_book(heap: Global, size: BookSize) -> anyhow::Result<Vec<Request>> 
             claims.push(claim)?;
             book.push(request)?;
         } else {
+            // by index, since a claim is drawn by its number
             let place = samples.claim_index(opened, Busiest::Last) as usize;
             let mut turn = Turn {
                 claim: claims.get_mut(place).context("a book has claims")?,

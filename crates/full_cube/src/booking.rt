@@ -13,13 +13,12 @@ impl<R: Register> Session<'_, R> {
     // Drafts a correction and posts it; where the post is refused, the draft is dropped.
     fn correct(&mut self, booked: Day, correction: Correction) -> Result<u32, CallFault> {
         let ticket = self.cube.draft(correction.names)?;
-        match self.cube.post(self.sheet, ticket, booked, correction.terms) {
-            Ok(number) => Ok(number),
-            Err((ticket, fault)) => {
+        self.cube
+            .post(self.sheet, ticket, booked, correction.terms)
+            .or_else(|(ticket, fault)| {
                 self.cube.drop_draft(ticket)?;
                 Err(fault)
-            }
-        }
+            })
     }
 
     // Drafts a correction and drops it.

@@ -38,7 +38,7 @@ pub struct SheetFigures {
     pub count: Figures,
 }
 
-// The figures of the cells of one measure.
+// The figures of the cells of one measure; of no cells 0 lies beyond, as 0 is their total.
 fn measure_figures(cells: &[i64]) -> Figures {
     Figures {
         total: total(cells).cast_signed(),
@@ -50,9 +50,11 @@ fn measure_figures(cells: &[i64]) -> Figures {
 // The figures of a sheet.
 pub fn sheet_figures(sheet: &[i64]) -> SheetFigures {
     let block = sheet.len() / 3;
+    let (paid, others) = sheet.split_at(block);
+    let (incurred, count) = others.split_at(block);
     SheetFigures {
-        paid: measure_figures(&sheet[0..block]),
-        incurred: measure_figures(&sheet[block..2 * block]),
-        count: measure_figures(&sheet[2 * block..3 * block]),
+        paid: measure_figures(paid),
+        incurred: measure_figures(incurred),
+        count: measure_figures(count),
     }
 }

@@ -1,7 +1,6 @@
 // What a run is to do.
 use anyhow::Context;
-use register::limits::{MOST_CLAIMS, MOST_ENTRIES};
-use samples::arguments::{number_up_to, setting};
+use samples::arguments::setting;
 use samples::size::BookSize;
 use std::env::{self, Args};
 use std::iter::Skip;
@@ -23,6 +22,7 @@ pub struct NoTask;
 impl FromStr for Task {
     type Err = NoTask;
 
+    // by arms, since each word stands in this place alone
     fn from_str(word: &str) -> Result<Task, NoTask> {
         match word {
             "flat" => Ok(Task::Flat),
@@ -48,10 +48,7 @@ impl Plan {
     fn read(mut words: Skip<Args>) -> Option<Plan> {
         let plan = Plan {
             task: setting(words.next(), Task::Both)?,
-            size: BookSize {
-                entries: number_up_to(MOST_ENTRIES, words.next(), 30_000)?,
-                claims: number_up_to(MOST_CLAIMS, words.next(), 4_000)?,
-            },
+            size: BookSize::named(words.next(), words.next())?,
             bookings: setting(words.next(), 1)?,
             queries: setting(words.next(), 1)?,
         };

@@ -26,7 +26,7 @@ const KEPT_DAY: u64 = 20_191_231;
 // The last day of the book, by which every entry is booked.
 const LAST_DAY: u64 = 20_241_231;
 // The questions, each by the numbers of its days, known and valued: as known and valued at the ends of three past years and at
-// the end of the book; and valued at one day as that was known later.
+// the end of the book; and valued at one day as that was known later. Numbers, since the making of a day may fail.
 const ASKED: [(u64, u64); 6] = [
     (20_161_231, 20_161_231),
     (KEPT_DAY, KEPT_DAY),

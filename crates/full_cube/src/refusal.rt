@@ -11,7 +11,7 @@ use values::fault::ValueFault;
 // The day before all that are counted.
 const DAY_BEFORE: u64 = 20_131_231;
 
-// Why a request is to be refused.
+// Why a request is to be refused: those faults of a call that a request can bring about, so that no arm is for the other six.
 #[derive(Clone, Copy, PartialEq)]
 enum Refusal {
     // 7

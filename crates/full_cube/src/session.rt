@@ -81,10 +81,11 @@ impl<'a, R: Register + Drop> Session<'a, R> {
         let answer = cells.as_mut_slice();
         let answers = self.ask_all(heap, answer)?;
         let stood = self.answers_with(heap, days.kept, answer, kept)?;
-        let mut current = true;
-        for _ in 0..queries {
-            current = self.answers_with(heap, days.last, answer, self.sheet)? && current;
-        }
+        // each query is put, also once one was not the live sheet, so that as many are timed
+        let current = (0..queries).try_fold(true, |current, _| {
+            self.answers_with(heap, days.last, answer, self.sheet)
+                .map(|same| same && current)
+        })?;
         Ok(Report {
             tally: self.tally,
             live: sheet_figures(self.sheet),

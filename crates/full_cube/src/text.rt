@@ -5,8 +5,8 @@ use register::kind::MovementKind;
 use std::fmt;
 use values::claim_days::ClaimDays;
 
-// The fields of a line, each 0 where the request has none: a letter, the claim, the number of a movement, the effective day,
-// the amount and the three claim days.
+// The fields of a line: a letter, the claim, the number of a movement, the effective day, the amount and the three claim days;
+// each 0 where the request has none, since the format has a 0 there.
 #[derive(Clone, Copy, Default)]
 struct Fields {
     letter: char,
@@ -100,6 +100,7 @@ impl fmt::Display for Line {
         )?;
         match self.answer {
             Ok(entry) => {
+                // the format has a 0 there
                 let entry = entry.unwrap_or(0);
                 write!(f, "{entry}")
             }

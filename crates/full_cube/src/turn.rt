@@ -2,8 +2,7 @@
 use crate::request::{Action, Movement, NewDays, Request};
 use register::entry::{Correction, Terms};
 use register::kind::MovementKind;
-use samples::happening::Happening;
-use samples::random::Random;
+use samples::happening::{Happening, Shares};
 use samples::samples::Samples;
 use values::day::Day;
 use values::fault::ValueFault;
@@ -23,7 +22,7 @@ pub struct Standing {
 }
 
 // What the book knows of a claim that was opened: its number, its report day as a count, its last movement, if that stands,
-// and the number of the last movement that was corrected or voided.
+// and the number of the last movement that was corrected or voided. The number is kept, since a turn has no place of its claim.
 #[derive(Clone, Copy)]
 pub struct Claim {
     pub number: u32,
@@ -49,16 +48,14 @@ pub struct Turn<'a> {
     pub progress: Progress,
 }
 
-// Of a hundred happenings 45 are payments, 30 reserve changes, 12 corrections, 7 voids and 6 redatings.
-fn next_happening(random: &mut Random) -> Happening {
-    match random.below(100) {
-        0..=44 => Happening::Payment,
-        45..=74 => Happening::ReserveChange,
-        75..=86 => Happening::Correction,
-        87..=93 => Happening::Void,
-        _ => Happening::Redating,
-    }
-}
+// Of a hundred happenings 45 are payments.
+const SHARES: Shares = Shares {
+    payments: 45,
+    reserve_changes: 30,
+    corrections: 12,
+    voids: 7,
+    redatings: 6,
+};
 
 impl Turn<'_> {
     // New claim days. The report day does not become later, so that no movement lies before it.
@@ -113,7 +110,7 @@ impl Turn<'_> {
     // correction or a void.
     fn change(&mut self) -> Result<Action, ValueFault> {
         match (
-            next_happening(&mut self.samples.random),
+            SHARES.next_happening(&mut self.samples.random),
             self.claim.standing,
         ) {
             (Happening::Redating, _) => self.redating(),
@@ -135,16 +132,12 @@ impl Turn<'_> {
 
     // The requests of the turn in their order: one that is refused, one that is dropped, and the one for the next entry.
     pub fn requests(&mut self) -> Result<[Option<Request>; 3], ValueFault> {
-        let refused = if self.samples.random.below(REFUSED_EVERY) == 0 {
-            Some(self.refused()?)
-        } else {
-            None
-        };
-        let dropped = if self.samples.random.below(DROPPED_EVERY) == 0 {
-            self.dropped()
-        } else {
-            None
-        };
+        let refused = (self.samples.random.below(REFUSED_EVERY) == 0)
+            .then(|| self.refused())
+            .transpose()?;
+        let dropped = (self.samples.random.below(DROPPED_EVERY) == 0)
+            .then(|| self.dropped())
+            .flatten();
         let booking = Request {
             booked: self.progress.today,
             action: self.change()?,

@@ -1,7 +1,6 @@
 // What a run is to do.
 use anyhow::Context;
-use register::limits::{MOST_CLAIMS, MOST_ENTRIES};
-use samples::arguments::{number_up_to, setting};
+use samples::arguments::setting;
 use samples::size::BookSize;
 use std::env::{self, Args};
 use std::iter::Skip;
@@ -22,6 +21,7 @@ pub struct NoKind;
 impl FromStr for Kind {
     type Err = NoKind;
 
+    // by arms, since each word stands in this place alone
     fn from_str(word: &str) -> Result<Kind, NoKind> {
         match word {
             "flat" => Ok(Kind::Flat),
@@ -47,10 +47,7 @@ impl Plan {
     fn read(mut words: Skip<Args>) -> Option<Plan> {
         let plan = Plan {
             kind: setting(words.next(), Kind::Both)?,
-            size: BookSize {
-                entries: number_up_to(MOST_ENTRIES, words.next(), 30_000)?,
-                claims: number_up_to(MOST_CLAIMS, words.next(), 4_000)?,
-            },
+            size: BookSize::named(words.next(), words.next())?,
             walks: setting(words.next(), 1)?,
             reads: setting(words.next(), 1)?,
             bookings: setting(words.next(), 1)?,

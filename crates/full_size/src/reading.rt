@@ -11,6 +11,7 @@ use register::register::Register;
 pub fn book_all<R: Register>(register: &mut R, book: &[Entry]) -> u64
     ensures { R.Register.meaning register.new ≡ booked (R.Register.meaning register.old) book.now }
 {
+    // a counter: adding alters the register, and a closure that alters what it captured tells the proof nothing
     let mut accepted = 0u64;
     for entry in book {
         if register.add(*entry).is_ok() {
@@ -31,11 +32,7 @@ fn walk_claim<R: Register>(register: &R, claim: u32, start: Sums) -> Sums
 pub fn walk_claims<R: Register>(register: &R, last: u32, start: Sums) -> Sums
     ensures { result ≡ all_walked (R.Register.meaning register.now).entries last start }
 {
-    let mut sums = start;
-    for claim in 0..last {
-        sums = walk_claim(register, claim + 1, sums);
-    }
-    sums
+    (0..last).fold(start, |sums, claim| walk_claim(register, claim + 1, sums))
 }
 
 // Adds up all entries, number by number.

@@ -15,7 +15,7 @@ pub struct Sums {
     pub cents: u64,
 }
 
-// The amount of an entry in cents, 0 where it has none.
+// The amount of an entry in cents, 0 where it has none: it is a summand, and nothing adds 0.
 fn cents(entry: Entry) -> i64
     ensures { result ≡ cents_of entry }
 {

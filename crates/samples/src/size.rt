@@ -1,6 +1,13 @@
 // How large a book is, and what comes evenly over it.
-ghost use Rattle.std.specs.Prelude.{◌≡◌};
-ghost use Rattle.samples.specs.Size.{come_by, opens_claim};
+ghost use Rattle.std.specs.Prelude.{◌≡◌, SomeIff};
+ghost use Rattle.samples.specs.Size.{Fits, come_by, named, opens_claim};
+
+use crate::arguments::number_up_to;
+use crate::samples::DAYS_OF_YEAR;
+use register::limits::{MOST_CLAIMS, MOST_ENTRIES};
+
+// The days that a book covers: ten years.
+pub const BOOK_DAYS: u32 = 10 * DAYS_OF_YEAR as u32;
 
 // How many entries a book has, and over how many claims.
 #[derive(Clone, Copy, PartialEq, Eq, Debug)]
@@ -10,6 +17,16 @@ pub struct BookSize {
 }
 
 impl BookSize {
+    // The size that two words name, within what a register takes; a large book's where they are left out.
+    pub fn named(entries: Option<String>, claims: Option<String>) -> Option<BookSize>
+        ensures { SomeIff result (Fits 65536 entries × Fits 8192 claims) (record { entries = named 30000 entries; claims = named 4000 claims }) }
+    {
+        Some(BookSize {
+            entries: number_up_to(MOST_ENTRIES, entries, 30_000)?,
+            claims: number_up_to(MOST_CLAIMS, claims, 4_000)?,
+        })
+    }
+
     // How much of a total has come by the entry with an index, where it comes evenly over the book.
     pub fn come_by(self, index: u32, total: u32) -> u64
         ensures { result ≡ come_by self.entries index total }
