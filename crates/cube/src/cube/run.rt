@@ -1,5 +1,6 @@
 // Rows of requests.
-ghost use Rattle.std.specs.Prelude.{◌≡◌, ◌≤◌, List, length, ℤ, IfOk, Ok, vec_len, MatchResult};
+ghost use Rattle.std.specs.Prelude.{◌≡◌, ◌<◌, ◌≤◌, List, length, get_or, MatchOption, vec_capacity, ℤ, IfOk, Ok, vec_len, MatchResult};
+ghost use Rattle.std.specs.List.{remove};
 ghost use Rattle.cube.specs.Calls.{Call};
 ghost use Rattle.cube.specs.Cubes.{desk_of, state_of};
 ghost use Rattle.cube.specs.Runs.{Ran, Served, Told, answer_of, dropped_all, told, told_of};
@@ -15,6 +16,16 @@ use register::register::Register;
 use std::alloc::{AllocError, Global};
 use values::cohort::Cohort;
 use values::day::Day;
+
+// The ticket at a place of a drawer, taken out of it, if the drawer has the place.
+fn take_ticket(drawer: &mut Vec<Ticket>, place: usize) -> Option<Ticket>
+    ensures { MatchOption result ((length drawer.old.items ≤ place) × (drawer.new.items ≡ drawer.old.items)) (λ ticket. (place < length drawer.old.items) × (ticket ≡ get_or drawer.old.items place ticket) × (drawer.new.items ≡ remove drawer.old.items place) × (vec_len drawer.new < vec_capacity drawer.new)) }
+{
+    if place >= drawer.len() {
+        return None;
+    }
+    Some(drawer.remove(place))
+}
 
 impl<R: Register, C: Cohort> Cube<R, C> {
     // Drafts, and puts the ticket into the drawer, which has room for it before the call is made.
@@ -35,10 +46,9 @@ impl<R: Register, C: Cohort> Cube<R, C> {
     fn serve_drop(&mut self, drawer: &mut Vec<Ticket>, place: usize) -> Answer
         ensures { (sheet : List ℤ) → Served (desk_of R.meaning C.meaning self.old sheet drawer.old.items) (Request.Drop place) (Ok result) (desk_of R.meaning C.meaning self.new sheet drawer.new.items) }
     {
-        if place >= drawer.len() {
+        let Some(ticket) = take_ticket(drawer, place) else {
             return Answer::NoTicket;
-        }
-        let ticket = drawer.remove(place);
+        };
         self.drop_draft(ticket)
             .map_or_else(Answer::Refused, |()| Answer::Dropped)
     }
@@ -54,10 +64,9 @@ impl<R: Register, C: Cohort> Cube<R, C> {
     ) -> Answer
         ensures { Served (desk_of R.meaning C.meaning self.old sheet.old drawer.old.items) (Request.Post place booked terms) (Ok result) (desk_of R.meaning C.meaning self.new sheet.new drawer.new.items) }
     {
-        if place >= drawer.len() {
+        let Some(ticket) = take_ticket(drawer, place) else {
             return Answer::NoTicket;
-        }
-        let ticket = drawer.remove(place);
+        };
         match self.post(sheet, ticket, booked, terms) {
             Ok(number) => Answer::Booked(number),
             Err((ticket, fault)) => {
