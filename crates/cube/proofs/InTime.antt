@@ -24,7 +24,7 @@ abbrev pub days_by : Content → Day → Type 0
 days_by (content.Opening o) day = o.report.number ≤ day.number
 days_by (content.Payment p) day = p.effective.number ≤ day.number
 days_by (content.ReserveChange r) day = r.effective.number ≤ day.number
-days_by (content.Correction k) day = k.terms.effective.number ≤ day.number
+days_by (content.Correction k) day = k.effective.number ≤ day.number
 days_by (content.Void v) day = Unit {0}
 days_by (content.Redating d) day = d.report.number ≤ day.number
 
@@ -90,7 +90,7 @@ module _ (day : Day) where
     terms_all days (Some kind) (content.Opening o) by = refl
     terms_all days (Some kind) (content.Payment p) by = timed_all p.effective _ by
     terms_all days (Some kind) (content.ReserveChange r) by = timed_all r.effective _ by
-    terms_all days (Some kind) (content.Correction k) by = timed_all k.terms.effective _ by
+    terms_all days (Some kind) (content.Correction k) by = timed_all k.effective _ by
     terms_all days (Some kind) (content.Void v) by = refl
     terms_all days (Some kind) (content.Redating d) by = refl
 

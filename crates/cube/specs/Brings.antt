@@ -4,6 +4,7 @@ use Rattle.values.specs.Cohorts.{Meaning}
 use Rattle.values.specs.declared.claim_days.ClaimDays.{ClaimDays}
 use Rattle.values.specs.declared.day.Day.{Day}
 use Rattle.register.specs.Entries.{claim_days_in, entry_in, kind_in, stands_in, is_opening}
+use Rattle.register.specs.Terms.{terms_of_correction}
 use Rattle.register.specs.declared.entry.Content.{Content}
 use Rattle.register.specs.declared.entry.Content.TheVariants as content
 use Rattle.register.specs.declared.entry.Correction.{Correction}
@@ -34,7 +35,7 @@ abbrev pub terms_of : Content → Option Terms
 terms_of (content.Opening o) = None
 terms_of (content.Payment p) = Some p
 terms_of (content.ReserveChange r) = Some r
-terms_of (content.Correction k) = Some k.terms
+terms_of (content.Correction k) = Some (terms_of_correction k)
 terms_of (content.Void v) = None
 terms_of (content.Redating d) = None
 
@@ -71,7 +72,7 @@ module _ (m : Meaning) (valued : Option Day) where
 
   -- a correction takes the movement that it names off, and adds its own terms as one of the same kind
   abbrev pub correction_shares : List Entry → ClaimDays → Correction → List Share
-  correction_shares es days k = movement_at es days TakenOff k.names ++ terms_shares days Added (kind_in es k.names) (Some k.terms)
+  correction_shares es days k = movement_at es days TakenOff k.names ++ terms_shares days Added (kind_in es k.names) (Some (terms_of_correction k))
 
   -- a redating takes the claim's count and standing movements off under the old claim days and adds them under the new
   abbrev pub redating_shares : List Entry → (claim : ℕ) → (old new : ClaimDays) → List Share

@@ -6,6 +6,7 @@ use Rattle.values.specs.declared.claim_days.ClaimDays.{ClaimDays}
 use Rattle.values.specs.declared.day.Day.{Day}
 use Rattle.register.specs.Entries.{claim_days_in, entry_in, is_movement, openings_in, stands_in}
 use Rattle.register.specs.Registers as registers
+use Rattle.register.specs.Terms.{correction_to}
 use Rattle.register.specs.declared.entry.Content.{Content}
 use Rattle.register.specs.declared.entry.Content.TheVariants as content
 use Rattle.register.specs.declared.entry.Entry.{Entry}
@@ -139,7 +140,7 @@ post_entry s sheet ticket booked terms =
     and_then (or_fault (entry_in s.book.entries ticket.entry) NotTheDraft) (λ e.
     and_then (or_fault (claim_days_in s.book.entries e.claim) NoSuchClaim) (λ days.
     and_then (effective_checked days terms.effective booked) (λ _.
-    Ok (record { booked = booked; claim = e.claim; content = content.Correction (record { names = ticket.entry; terms = terms }) }))))))
+    Ok (record { booked = booked; claim = e.claim; content = content.Correction (correction_to ticket.entry terms) }))))))
 
 -- Drop: closes the draft
 abbrev pub drop_answer : State → Ticket → Result (Unit {0}) CallFault

@@ -66,7 +66,7 @@ call_of d (request.Movement kind booked claim terms) = Some (Call.Move (length d
 call_of d (request.Void booked number) = Some (Call.Void (length d.ledger.sheet) booked number)
 call_of d (request.Redate booked claim days) = Some (Call.Redate (length d.ledger.sheet) booked claim days)
 call_of d (request.Draft number) = Some (Call.Draft number)
-call_of d (request.Post place booked terms) = option_map (λ ticket. Call.Post (length d.ledger.sheet) ticket booked terms) (slice_get d.drawer place)
+call_of d (request.Post booked place terms) = option_map (λ ticket. Call.Post (length d.ledger.sheet) ticket booked terms) (slice_get d.drawer place)
 call_of d (request.Drop place) = option_map Call.Drop (slice_get d.drawer place)
 call_of d (request.Query known valued) = Some (Call.Query (sheet_length d.ledger.state.cohort) known valued)
 
@@ -82,7 +82,7 @@ drawer_next d (request.Movement kind booked claim terms) = d.drawer
 drawer_next d (request.Void booked number) = d.drawer
 drawer_next d (request.Redate booked claim days) = d.drawer
 drawer_next d (request.Draft number) = d.drawer ++ option_to_list (result_ok (draft_ticket d.ledger.state number))
-drawer_next d (request.Post place booked terms) =
+drawer_next d (request.Post booked place terms) =
     spent_by d.drawer place (slice_get d.drawer place) (λ ticket. post_entry d.ledger.state (length d.ledger.sheet) ticket booked terms)
 drawer_next d (request.Drop place) = remove d.drawer place
 drawer_next d (request.Query known valued) = d.drawer

@@ -115,7 +115,7 @@ impl<C: Cohort> Cells<'_, C> {
     {
         self.add_movement_at(register, placing, Direction::TakenOff, correction.names);
         let kind = kind_of(register, correction.names);
-        self.add_terms(placing, Direction::Added, kind, Some(correction.terms));
+        self.add_terms(placing, Direction::Added, kind, Some(correction.terms()));
     }
 
     // Adds what a redating brings: the claim's part off under the old claim days, on under the new.

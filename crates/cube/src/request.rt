@@ -31,9 +31,10 @@ pub enum Request {
     Draft {
         number: u32,
     },
+    // the day first: with the place before it a request would take eight bytes more
     Post {
-        place: usize,
         booked: Day,
+        place: usize,
         terms: Terms,
     },
     Drop {

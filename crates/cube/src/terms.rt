@@ -52,7 +52,7 @@ pub fn terms_of(content: Content) -> Option<Terms>
 {
     match content {
         Content::Payment(terms) | Content::ReserveChange(terms) => Some(terms),
-        Content::Correction(correction) => Some(correction.terms),
+        Content::Correction(correction) => Some(correction.terms()),
         _ => None,
     }
 }

@@ -14,7 +14,7 @@ impl<R: Register> Session<'_, R> {
     fn correct(&mut self, booked: Day, correction: Correction) -> Result<u32, CallFault> {
         let ticket = self.cube.draft(correction.names)?;
         self.cube
-            .post(self.sheet, ticket, booked, correction.terms)
+            .post(self.sheet, ticket, booked, correction.terms())
             .or_else(|(ticket, fault)| {
                 self.cube.drop_draft(ticket)?;
                 Err(fault)

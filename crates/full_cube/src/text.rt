@@ -61,8 +61,8 @@ impl Fields {
                 })
             },
             Action::Correct(correction) => Fields {
-                effective: correction.terms.effective.number(),
-                cents: correction.terms.amount.cents(),
+                effective: correction.effective.number(),
+                cents: correction.amount.cents(),
                 ..Fields::naming('K', correction.names)
             },
             Action::Abandon(number) => Fields::naming('X', number),

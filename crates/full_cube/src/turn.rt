@@ -96,7 +96,7 @@ impl Turn<'_> {
     fn correction(&mut self, names: u32) -> Result<Action, ValueFault> {
         self.claim.replaced = Some(names);
         let terms = self.next_terms()?;
-        Ok(Action::Correct(Correction { names, terms }))
+        Ok(Action::Correct(Correction::new(names, terms)))
     }
 
     // The void of the movement with a number.

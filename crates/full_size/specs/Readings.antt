@@ -13,7 +13,7 @@ abbrev cents_in : Content → ℤ
 cents_in (Opening o) = pos 0
 cents_in (Payment p) = p.amount.cents
 cents_in (ReserveChange r) = r.amount.cents
-cents_in (Correction k) = k.terms.amount.cents
+cents_in (Correction k) = k.amount.cents
 cents_in (Void v) = pos 0
 cents_in (Redating d) = pos 0
 

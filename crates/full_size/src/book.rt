@@ -53,7 +53,7 @@ fn change(
         }
         (Happening::Void, Some(names)) => (Content::Void(Void { names }), None),
         (Happening::Correction, Some(names)) => {
-            (Content::Correction(Correction { names, terms }), here)
+            (Content::Correction(Correction::new(names, terms)), here)
         }
         (Happening::Payment, _) => (Content::Payment(terms), here),
         _ => (Content::ReserveChange(terms), here),

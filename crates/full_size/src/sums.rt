@@ -21,7 +21,7 @@ fn cents(entry: Entry) -> i64
 {
     match entry.content {
         Content::Payment(terms) | Content::ReserveChange(terms) => terms.amount.cents(),
-        Content::Correction(correction) => correction.terms.amount.cents(),
+        Content::Correction(correction) => correction.amount.cents(),
         Content::Opening(_) | Content::Void(_) | Content::Redating(_) => 0,
     }
 }

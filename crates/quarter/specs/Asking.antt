@@ -20,7 +20,7 @@ abbrev pub redating_of : (booked claim inception occurrence report : ℕ) → Re
 redating_of booked claim inception occurrence report = and_then (day_of booked) (λ b. and_then (claim_days_of inception occurrence report) (λ days. Ok (request.Redate b claim days)))
 
 abbrev pub post_of : (place booked effective : ℕ) → ℤ → Result Request ValueFault
-post_of place booked effective cents = and_then (day_of booked) (λ b. and_then (new_terms effective cents) (λ terms. Ok (request.Post place b terms)))
+post_of place booked effective cents = and_then (day_of booked) (λ b. and_then (new_terms effective cents) (λ terms. Ok (request.Post b place terms)))
 
 abbrev pub query_of : (known valued : ℕ) → Result Request ValueFault
 query_of known valued = and_then (day_of known) (λ k. and_then (day_of valued) (λ v. Ok (request.Query k v)))

@@ -12,11 +12,14 @@ pub struct Terms {
     pub amount: Amount,
 }
 
-// An earlier movement gets new terms.
+// An earlier movement gets a new effective day and a new amount.
+// No `Terms` in one field: an amount is aligned to eight bytes, so that behind the number they would take eight bytes more, and
+// with them every entry.
 #[derive(Clone, Copy, PartialEq, Debug)]
 pub struct Correction {
     pub names: u32,
-    pub terms: Terms,
+    pub effective: Day,
+    pub amount: Amount,
 }
 
 // An earlier movement is taken back.

@@ -45,7 +45,7 @@ fn correction(
     entry(
         booked,
         claim,
-        Content::Correction(Correction { names, terms }),
+        Content::Correction(Correction::new(names, terms)),
     )
 }
 

@@ -56,7 +56,7 @@ impl fmt::Display for InWords {
             }
             Content::Correction(correction) => {
                 let names = correction.names;
-                let terms = TermsInWords(correction.terms);
+                let terms = TermsInWords(correction.terms());
                 write!(f, "entry {names} corrected to {terms}")
             }
             Content::Void(void) => {

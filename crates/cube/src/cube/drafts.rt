@@ -101,8 +101,7 @@ impl<R: Register, C: Cohort> Cube<R, C> {
             CallFault::NoSuchClaim,
         )?;
         check_effective(claim_days, terms.effective, booked)?;
-        let names = ticket.entry;
-        let content = Content::Correction(Correction { names, terms });
+        let content = Content::Correction(Correction::new(ticket.entry, terms));
         Ok(Entry {
             booked,
             claim: named.claim,

@@ -62,7 +62,7 @@ impl<R: Register, C: Cohort> Cube<R, C> {
         booked: Day,
         terms: Terms,
     ) -> Answer
-        ensures { Served (desk_of R.meaning C.meaning self.old sheet.old drawer.old.items) (Request.Post place booked terms) (Ok result) (desk_of R.meaning C.meaning self.new sheet.new drawer.new.items) }
+        ensures { Served (desk_of R.meaning C.meaning self.old sheet.old drawer.old.items) (Request.Post booked place terms) (Ok result) (desk_of R.meaning C.meaning self.new sheet.new drawer.new.items) }
     {
         let Some(ticket) = take_ticket(drawer, place) else {
             return Answer::NoTicket;

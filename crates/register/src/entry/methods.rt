@@ -1,9 +1,9 @@
-// Making the terms of a movement, and what an entry tells of itself.
+// Making the terms of a movement and a correction, and what an entry tells of itself.
 ghost use Rattle.std.specs.Prelude.{◌≡◌};
 ghost use Rattle.register.specs.Entries.{is_opening, is_movement, named_by};
-ghost use Rattle.register.specs.Terms.{new_terms};
+ghost use Rattle.register.specs.Terms.{correction_to, new_terms, terms_of_correction};
 
-use super::{Content, Entry, Terms};
+use super::{Content, Correction, Entry, Terms};
 use values::amount::Amount;
 use values::day::Day;
 use values::fault::ValueFault;
@@ -17,6 +17,30 @@ impl Terms {
         let effective = Day::new(effective)?;
         let amount = Amount::new(cents)?;
         Ok(Terms { effective, amount })
+    }
+}
+
+impl Correction {
+    // The correction that gives the movement with a number new terms.
+    pub fn new(names: u32, terms: Terms) -> Correction
+        ensures { result ≡ correction_to names terms }
+    {
+        let Terms { effective, amount } = terms;
+        Correction {
+            names,
+            effective,
+            amount,
+        }
+    }
+
+    // The new terms.
+    pub fn terms(self) -> Terms
+        ensures { result ≡ terms_of_correction self }
+    {
+        Terms {
+            effective: self.effective,
+            amount: self.amount,
+        }
     }
 }
 
