@@ -7,9 +7,10 @@ use crate::session::Session;
 use cube::fault::CallFault;
 use register::entry::Correction;
 use register::register::Register;
+use values::cohort::Cohort;
 use values::day::Day;
 
-impl<R: Register> Session<'_, R> {
+impl<R: Register, C: Cohort> Session<'_, R, C> {
     // Drafts a correction and posts it; where the post is refused, the draft is dropped.
     fn correct(&mut self, booked: Day, correction: Correction) -> Result<u32, CallFault> {
         let ticket = self.cube.draft(correction.names)?;

@@ -89,6 +89,6 @@ pub fn show_report(rt: &HostRuntime, name: &str, report: &Report) -> anyhow::Res
     show_tally(rt, report.tally)?;
     println!(rt; "  the live sheet at the end")?;
     show_sheet(rt, report.live)?;
-    show_answers(rt, report.answers.as_slice())?;
+    show_answers(rt, &report.answers)?;
     show_comparison(rt, report)
 }

@@ -1,7 +1,7 @@
 // A cube over a register of whichever kind, booked and queried.
 use crate::booking::count_until;
 use crate::figures::{SheetFigures, sheet_figures};
-use crate::questions::{Answered, ComparedDays, Question};
+use crate::questions::{Answered, ComparedDays, QUESTIONS, Question};
 use crate::request::Request;
 use crate::tally::Tally;
 use crate::text::Line;
@@ -17,8 +17,8 @@ const MARK: u32 = 1;
 
 // A started cube, its live sheet, and the counts of what was asked of it.
 #[derive(Drop)]
-pub struct Session<'a, R> {
-    pub cube: Cube<R, PeriodCohort>,
+pub struct Session<'a, R, C> {
+    pub cube: Cube<R, C>,
     pub sheet: &'a mut [i64],
     pub tally: Tally,
 }
@@ -26,11 +26,11 @@ pub struct Session<'a, R> {
 // What came of a book: the counts, the figures of the live sheet and of the answers to the questions, and whether two of these
 // were, cell by cell, the live sheet: the one as known on the kept day, when that day ended, and the one as known on the last
 // day, at the end.
-#[derive(PartialEq, Drop)]
+#[derive(Clone, Copy, PartialEq)]
 pub struct Report {
     pub tally: Tally,
     pub live: SheetFigures,
-    pub answers: Vec<Answered>,
+    pub answers: [Answered; QUESTIONS],
     pub days: ComparedDays,
     pub stood: bool,
     pub current: bool,
@@ -41,9 +41,9 @@ pub fn quarters() -> anyhow::Result<PeriodCohort> {
     PeriodCohort::new(Anchor::Occurrence, 3, 2015, 1, 40, 40).context("there is no such cohort")
 }
 
-impl<'a, R: Register + Drop> Session<'a, R> {
+impl<'a, R: Register + Drop> Session<'a, R, PeriodCohort> {
     // A cube over an empty register is started.
-    fn start(register: R, sheet: &'a mut [i64]) -> anyhow::Result<Session<'a, R>> {
+    fn start(register: R, sheet: &'a mut [i64]) -> anyhow::Result<Session<'a, R, PeriodCohort>> {
         let mut cube = Cube::new(register, quarters()?);
         cube.start(sheet, MARK).context("the cube does not start")?;
         Ok(Session {
