@@ -52,7 +52,7 @@ impl<'a, T: Copy> BoundedList<'a, T> {
     pub fn len(&self) -> usize
         ensures { result ≡ length self.now.items }
     {
-        self.len
+        self.len // and not the room
     }
 
     // How many items there is memory for.

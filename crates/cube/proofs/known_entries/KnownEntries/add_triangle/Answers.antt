@@ -1,4 +1,4 @@
-use Rattle.std.proofs.Common.{◌≡◌, ◌+◌, ◌≤◌, length, take, drop, Some, sym, ap, ◌∙◌, arith}
+use Rattle.std.proofs.Common.{◌≡◌, ◌+◌, ◌≤◌, length, take, drop, Some, sym, refl, ap, ◌∙◌, arith, rules}
 use Rattle.std.proofs.lemmas.Iterator.{YieldsList-from_take}
 use Rattle.std.proofs.lemmas.Iterator.Consumers.{YieldsList-at, YieldsList-end, YieldsList-from_first, YieldsList-turn}
 use Rattle.std.proofs.lemmas.List.{drop_all, length-take, length_push}
@@ -18,14 +18,16 @@ add_part-requires g c =
     let k = c.self.inside in
     let book = g.R.Register.meaning k.register.now in
     let l = c.loop-found in
+    let n = c.take-found-items.result.n in
     let road =
     YieldsList-at c.into_iter-found-iterator.ensures.into_iter_gives
-    (YieldsList-from_take k.tables.count (YieldsList-at c.take-found-items.ensures.source (YieldsList-from_first (λ x. x) (entries_left g.R.Register.meaning) _ c.all_entries.ensures.left)) c.take-found-items.ensures.count) in
+    (YieldsList-from_take n (YieldsList-at c.take-found-items.ensures.source (YieldsList-from_first (λ x. x) (entries_left g.R.Register.meaning) _ c.all_entries.ensures.left)) refl) in
     let x = c.in-Some.found in
     let turn = YieldsList-turn road l.yielded l.found-iterator l.yielded_by c.next.result c.next.new.self x c.in-Some.is c.next.ensures.steps in
     let i = length l.yielded in
-    let here = numbered_at k.tables.count book.entries i x turn.0 turn.1 in
-    let among : Some x.entry ≡ entry_in (take k.tables.count book.entries) (i + 1) = here.1 ∙ sym (entry_within k.tables.count book.entries (i + 1) (omega (arith, here.2))) in
+    let here = numbered_at n book.entries i x turn.0 turn.1 in
+    let few : n ≤ k.tables.count = search rules in
+    let among : Some x.entry ≡ entry_in (take k.tables.count book.entries) (i + 1) = here.1 ∙ sym (entry_within k.tables.count book.entries (i + 1) (omega (arith, here.2, few))) in
     let first : Some x.entry ≡ entry_in (take k.tables.count book.entries) x.number = among ∙ ap (entry_in (take k.tables.count book.entries)) (sym here.0) in
     record {
       found = first ∙ ap (λ (m : Meaning). entry_in m.entries x.number) c.self.view_is;
@@ -39,14 +41,16 @@ loop-found-preserved g c =
     let k = c.self.inside in
     let book = g.R.Register.meaning k.register.now in
     let l = c.loop-found in
+    let n = c.take-found-items.result.n in
     let road =
     YieldsList-at c.into_iter-found-iterator.ensures.into_iter_gives
-    (YieldsList-from_take k.tables.count (YieldsList-at c.take-found-items.ensures.source (YieldsList-from_first (λ x. x) (entries_left g.R.Register.meaning) _ c.all_entries.ensures.left)) c.take-found-items.ensures.count) in
+    (YieldsList-from_take n (YieldsList-at c.take-found-items.ensures.source (YieldsList-from_first (λ x. x) (entries_left g.R.Register.meaning) _ c.all_entries.ensures.left)) refl) in
     let x = c.in-Some.found in
     let turn = YieldsList-turn road l.yielded l.found-iterator l.yielded_by c.next.result c.next.new.self x c.in-Some.is c.next.ensures.steps in
     let i = length l.yielded in
-    let here = numbered_at k.tables.count book.entries i x turn.0 turn.1 in
-    let among : Some x.entry ≡ entry_in (take k.tables.count book.entries) (i + 1) = here.1 ∙ sym (entry_within k.tables.count book.entries (i + 1) (omega (arith, here.2))) in
+    let here = numbered_at n book.entries i x turn.0 turn.1 in
+    let few : n ≤ k.tables.count = search rules in
+    let among : Some x.entry ≡ entry_in (take k.tables.count book.entries) (i + 1) = here.1 ∙ sym (entry_within k.tables.count book.entries (i + 1) (omega (arith, here.2, few))) in
     let part = part_at m c.args.valued es (i + 1) (entry_in es (i + 1)) in
     let rest = triangle_from m c.args.valued es (i + 1) (drop (i + 1) es) in
     let is : triangle_part m c.args.valued es x.number x.entry ≡ part =
@@ -69,12 +73,13 @@ returns g c =
     let k = c.self.inside in
     let book = g.R.Register.meaning k.register.now in
     let l = c.loop-found in
+    let n = c.take-found-items.result.n in
     let road =
     YieldsList-at c.into_iter-found-iterator.ensures.into_iter_gives
-    (YieldsList-from_take k.tables.count (YieldsList-at c.take-found-items.ensures.source (YieldsList-from_first (λ x. x) (entries_left g.R.Register.meaning) _ c.all_entries.ensures.left)) c.take-found-items.ensures.count) in
+    (YieldsList-from_take n (YieldsList-at c.take-found-items.ensures.source (YieldsList-from_first (λ x. x) (entries_left g.R.Register.meaning) _ c.all_entries.ensures.left)) refl) in
     let ended = YieldsList-end road l.yielded l.found-iterator l.yielded_by c.next.result c.next.new.self c.in-None.is c.next.ensures.steps in
     let i = length l.yielded in
-    let past : length es ≤ i = omega (arith, ended.1, length-take k.tables.count (numbered_from 0 book.entries), length-numbered_from 0 book.entries, length-take k.tables.count book.entries, ap (λ (q : Meaning). length q.entries) c.self.view_is) in
+    let past : length es ≤ i = omega (arith, ended.1, length-take n (numbered_from 0 book.entries), c.take-found-items.ensures.count, length-numbered_from 0 book.entries, length-take k.tables.count book.entries, ap (λ (q : Meaning). length q.entries) c.self.view_is) in
     record {
       lent = l.invariant.0;
       cohort = l.invariant.1;
