@@ -33,4 +33,4 @@ returns c =
     let row = c.args.row.now in
     let all : scan wrapping wrapping (pos 0) row ≡ running_sums row = ap (λ sum. scan wrapping wrapping sum row) (sym wrap_none) ∙ wrapped (pos 0) row in
     let sums = items_from_collect _ c.collect.ensures.ran (YieldsList-from_scan _ wrapping wrapping (pos 0) (YieldsList-from_slice row cc) c.scan.ensures.state c.scan.ensures.closure (λ b x r q d k. search (rules, tests, wraps))) in
-    subst (λ xs. IfOk c.collect.result (λ v. vec_items v ≡ xs)) all sums
+    search (rules, subst (λ xs. IfOk c.collect.result (λ v. vec_items v ≡ xs)) all sums)
