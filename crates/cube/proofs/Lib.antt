@@ -1,5 +1,4 @@
 pub mod Accepted
-pub mod Adding
 pub mod Bounds
 pub mod Cells
 pub mod Claims
